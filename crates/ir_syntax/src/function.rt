@@ -1,0 +1,121 @@
+//! Functions and their parameters (LangRef, "Functions").
+ghost use Rattle.std.specs.Prelude.{◌≡◌, length};
+
+use crate::block::Blocks;
+use crate::name::Name;
+use crate::ty::TyText;
+use std::marker::Model;
+
+/// Who sees a name (LangRef, "Linkage Types").
+#[derive(Clone, Copy, Debug, PartialEq, Eq)]
+pub enum Linkage {
+    /// Every part of the program.
+    External,
+}
+
+/// How a name is seen from outside the linked image (LangRef, "Visibility Styles").
+#[derive(Clone, Copy, Debug, PartialEq, Eq)]
+pub enum Visibility {
+    /// As the object format has it by default.
+    Default,
+}
+
+/// A parameter of a function.
+#[derive(Debug, Drop)]
+pub struct Param {
+    /// The line of the parameter's first token.
+    pub line: u32,
+    /// Its type; none for `metadata`.
+    pub ty: Option<TyText>,
+    /// Its name.
+    pub name: Name,
+}
+
+/// The parameters of a function in order. Contracts see a list.
+#[derive(Debug, Drop)]
+pub struct Params {
+    params: Vec<Param>,
+}
+
+impl Model for Params {
+    ghost use Rattle.std.specs.Prelude.{List};
+    ghost use Rattle.std.specs.Coded.{coded_list};
+    ghost use Rattle.ir_syntax.specs.declared.function.Param.{Param};
+    ghost use Rattle.ir_syntax.specs.contracts.function.Param as param;
+
+    ghost Value = { List Param };
+
+    ghost coded = { coded_list param.the_row.coded };
+
+    ghost view = { λ p. p.params.items };
+}
+
+impl Params {
+    /// These parameters, in their order.
+    pub fn from_vec(params: Vec<Param>) -> Params
+        ensures { result ≡ params.items }
+    {
+        Params { params }
+    }
+
+    /// The parameters in order.
+    pub fn as_slice(&self) -> &[Param]
+        ensures { result.now ≡ self.now }
+    {
+        self.params.as_slice()
+    }
+}
+
+/// A function, defined or declared.
+#[derive(Debug, Drop)]
+pub struct Function {
+    /// The line of `define` or `declare`.
+    pub line: u32,
+    /// The function's name.
+    pub name: Name,
+    /// Who sees it.
+    pub linkage: Linkage,
+    /// How it is seen from outside.
+    pub visibility: Visibility,
+    /// The type of what it returns; none for `void`.
+    pub result: Option<TyText>,
+    /// Its parameters.
+    pub params: Params,
+    /// Its blocks; none for a declaration.
+    pub blocks: Option<Blocks>,
+}
+
+/// The functions of a module in the order of the text. Contracts see a list.
+#[derive(Debug, Drop)]
+pub struct Functions {
+    functions: Vec<Function>,
+}
+
+impl Model for Functions {
+    ghost use Rattle.std.specs.Prelude.{List};
+    ghost use Rattle.std.specs.Coded.{coded_list};
+    ghost use Rattle.ir_syntax.specs.declared.function.Function.{Function};
+    ghost use Rattle.ir_syntax.specs.contracts.function.Function as function;
+
+    ghost Value = { List Function };
+
+    ghost coded = { coded_list function.the_row.coded };
+
+    ghost view = { λ f. f.functions.items };
+}
+
+impl Functions {
+    /// These functions, in their order.
+    pub fn from_vec(functions: Vec<Function>) -> Functions
+        ensures { result ≡ functions.items }
+    {
+        Functions { functions }
+    }
+
+    /// The functions in order.
+    pub fn as_slice(&self) -> &[Function]
+        ensures { result.now ≡ self.now }
+    {
+        self.functions.as_slice()
+    }
+}

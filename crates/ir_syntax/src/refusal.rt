@@ -1,0 +1,18 @@
+//! Why a text is refused.
+
+/// Why a text is refused. The answer is the refusal of the least number that holds.
+#[derive(Clone, Copy, Debug, PartialEq, Eq)]
+pub enum Refusal {
+    /// Number 1: more than 16,777,216 bytes were read.
+    TooLong {
+        /// How many bytes were read.
+        taken: u64,
+    },
+    /// Number 18: an item of the module is not built yet.
+    NotYet {
+        /// The line of the first such item.
+        line: u32,
+    },
+    /// Memory ran out.
+    NoMemory,
+}

@@ -1,0 +1,51 @@
+-- How instructions are spelled in assembly. A line is given without its line feed.
+use Rattle.std.specs.Prelude.{◌&&◌, ◌==◌, ℕ, ℤ, pos, negsuc, Bool, false, List, [], ◌∷◌, ◌++◌, codes, if◌then◌else◌, slice_index_or}
+use Rattle.std.specs.Fmt.{signed_decimal}
+use Rattle.rv_isa.specs.declared.inst.Inst.{Inst}
+use Rattle.rv_isa.specs.declared.inst.Op.{Op}
+use Rattle.rv_isa.specs.declared.inst.Op.TheVariants.{Addi, Lui, Jalr, Ecall}
+
+-- the registers by their names in the calling convention, x0 first
+abbrev pub register_names : List (List ℕ)
+register_names =
+    codes "zero" ∷ codes "ra" ∷ codes "sp" ∷ codes "gp" ∷ codes "tp" ∷ codes "t0" ∷ codes "t1" ∷ codes "t2"
+    ∷ codes "s0" ∷ codes "s1" ∷ codes "a0" ∷ codes "a1" ∷ codes "a2" ∷ codes "a3" ∷ codes "a4" ∷ codes "a5"
+    ∷ codes "a6" ∷ codes "a7" ∷ codes "s2" ∷ codes "s3" ∷ codes "s4" ∷ codes "s5" ∷ codes "s6" ∷ codes "s7"
+    ∷ codes "s8" ∷ codes "s9" ∷ codes "s10" ∷ codes "s11" ∷ codes "t3" ∷ codes "t4" ∷ codes "t5" ∷ codes "t6" ∷ []
+
+abbrev pub register : ℕ → List ℕ
+register r = slice_index_or register_names r []
+
+-- operands, parted by a comma and a blank
+abbrev pub operands : List (List ℕ) → List ℕ
+operands [] = []
+operands (first ∷ []) = first
+operands (first ∷ second ∷ more) = first ++ codes ", " ++ operands (second ∷ more)
+
+-- a directive or an instruction: a tab, the word, and, where it has operands, a tab and those
+abbrev pub spelled_line : List ℕ → List (List ℕ) → List ℕ
+spelled_line word [] = 9 ∷ word
+spelled_line word (first ∷ more) = 9 ∷ (word ++ 9 ∷ operands (first ∷ more))
+
+-- an address: an offset and a base register in brackets
+abbrev pub based : ℤ → ℕ → List ℕ
+based offset base = signed_decimal offset ++ 40 ∷ (register base ++ 41 ∷ [])
+
+abbrev pub is_zero : ℤ → Bool
+is_zero (pos n) = n == 0
+is_zero (negsuc n) = false
+
+-- an instruction, in its short form where it has one
+abbrev pub spelled_as : Op → Inst → List ℕ
+spelled_as Addi i =
+    if i.rs1 == 0 then spelled_line (codes "li") (register i.rd ∷ signed_decimal i.imm ∷ [])
+    else if is_zero i.imm then spelled_line (codes "mv") (register i.rd ∷ register i.rs1 ∷ [])
+    else spelled_line (codes "addi") (register i.rd ∷ register i.rs1 ∷ signed_decimal i.imm ∷ [])
+spelled_as Lui i = spelled_line (codes "lui") (register i.rd ∷ signed_decimal i.imm ∷ [])
+spelled_as Jalr i =
+    if i.rd == 0 && i.rs1 == 1 && is_zero i.imm then spelled_line (codes "ret") []
+    else spelled_line (codes "jalr") (register i.rd ∷ based i.imm i.rs1 ∷ [])
+spelled_as Ecall i = spelled_line (codes "ecall") []
+
+abbrev pub instruction_line : Inst → List ℕ
+instruction_line i = spelled_as i.op i

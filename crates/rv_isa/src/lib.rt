@@ -1,0 +1,10 @@
+//! Instructions of RV64IM: their fields, their 32-bit words, and their spelling in assembly.
+//!
+//! Sections are of the RISC-V Instruction Set Manual, Volume I: Unprivileged Architecture.
+#![tactic(auto)]
+
+mod inst;
+mod symbol;
+
+pub use inst::{Inst, Line, Op};
+pub use symbol::SymName;
