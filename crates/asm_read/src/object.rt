@@ -1,5 +1,6 @@
 //! What an assembled text holds.
 ghost use Rattle.std.specs.Prelude.{◌≡◌};
+ghost use Rattle.rv_isa.specs.Relocation.{AreLines};
 
 use rv_isa::{Line, SymName};
 use std::marker::Model;
@@ -24,7 +25,8 @@ pub struct ObjectSymbol {
     pub offset: i128,
 }
 
-/// The instructions of an object in the order of its text. Contracts see a list.
+/// The instructions of an object in the order of its text, each one that has a word. Contracts see
+/// a list.
 #[derive(Debug, Drop)]
 pub struct Words {
     words: Vec<Line>,
@@ -33,6 +35,7 @@ pub struct Words {
 impl Model for Words {
     ghost use Rattle.std.specs.Prelude.{List};
     ghost use Rattle.std.specs.Coded.{coded_list};
+    ghost use Rattle.rv_isa.specs.Relocation.{AreLines};
     ghost use Rattle.rv_isa.specs.declared.inst.Line.{Line};
     ghost use Rattle.rv_isa.specs.contracts.inst.Line as line;
 
@@ -41,11 +44,14 @@ impl Model for Words {
     ghost coded = { coded_list line.the_row.coded };
 
     ghost view = { λ w. w.words.items };
+
+    ghost invariant = { λ w. AreLines w.words.items };
 }
 
 impl Words {
     /// These instructions, in their order.
     pub fn from_vec(words: Vec<Line>) -> Words
+        requires { AreLines words.items }
         ensures { result ≡ words.items }
     {
         Words { words }
@@ -53,7 +59,8 @@ impl Words {
 
     /// The instructions in order.
     pub fn as_slice(&self) -> &[Line]
-        ensures { result.now ≡ self.now }
+        ensures lines { AreLines self.now }
+        ensures value { result.now ≡ self.now }
     {
         self.words.as_slice()
     }

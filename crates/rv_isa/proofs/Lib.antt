@@ -1,0 +1,3 @@
+pub mod Formats
+pub mod Relocations
+pub mod Table

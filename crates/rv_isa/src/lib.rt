@@ -3,8 +3,10 @@
 //! Sections are of the RISC-V Instruction Set Manual, Volume I: Unprivileged Architecture.
 #![tactic(auto)]
 
+mod encoding;
 mod inst;
 mod symbol;
 
+pub use encoding::{decode, decoding_is_undone, encode, encoding_is_undone, words_fit};
 pub use inst::{Inst, Line, Op};
 pub use symbol::SymName;

@@ -1,0 +1,83 @@
+-- How facts on what sources gave and sinks got go on from one call to the next.
+use Rattle.std.proofs.Common.{◌≡◌, ℕ, ◌+◌, ◌-◌, ◌≤◌, List, [], ◌++◌, length, take, drop, None, Some, refl, sym, ap, ◌∙◌, subst, length-drop, append_assoc, append-nil, take-append-drop, arith}
+use Rattle.std.proofs.Math.Seq.{take-add, take-length}
+use Rattle.std.proofs.KnownBytes.{Appends-nil, Appends-trans, Consumes-nil, Consumes-trans}
+use Rattle.std.specs.declared.option.Option.{Option}
+use Rattle.std.specs.Io.KnownBytes.{Appends, Consumes}
+use Rattle.cg_io.specs.Told.{GivesAll, TakesAtMost, AppendsPrefix, Delivers, DeliversPart}
+
+-- `&xs[n..]` is all that follows the first n
+rest_from : (n : ℕ) (xs : List ℕ) → take (length xs - n) (drop n xs) ≡ drop n xs
+rest_from n xs = ap (λ k. take k (drop n xs)) (sym (length-drop n xs)) ∙ take-length (drop n xs)
+
+-- the first n bytes were appended, and then the first m of `&xs[n..]`
+pub Appends-take-add : (a b c : Option (List ℕ)) (n m : ℕ) (xs : List ℕ) → Appends a b (take n xs)
+    → Appends b c (take m (take (length xs - n) (drop n xs))) → Appends a c (take (n + m) xs)
+Appends-take-add a b c n m xs first second =
+    let whole = subst (λ (l : List ℕ). Appends b c (take m l)) (rest_from n xs) second in
+    subst (Appends a c) (sym (take-add n m xs)) (Appends-trans a b c _ _ first whole)
+
+-- ---- a first part of what was due
+
+-- nothing is a first part
+pub AppendsPrefix-none : (a : Option (List ℕ)) (due : List ℕ) → AppendsPrefix a a due
+AppendsPrefix-none a due = record { front = []; rest = due; split = refl; appended = Appends-nil a }
+
+-- all of it is a first part
+pub AppendsPrefix-all : (a b : Option (List ℕ)) (due : List ℕ) → Appends a b due → AppendsPrefix a b due
+AppendsPrefix-all a b due all = record { front = due; rest = []; split = sym (append-nil due); appended = all }
+
+-- the first n bytes are a first part
+pub AppendsPrefix-take : (a b : Option (List ℕ)) (n : ℕ) (due : List ℕ) → Appends a b (take n due) → AppendsPrefix a b due
+AppendsPrefix-take a b n due part = record { front = take n due; rest = drop n due; split = sym (take-append-drop n due); appended = part }
+
+-- a first part of a text is one of a longer text
+pub AppendsPrefix-longer : (a b : Option (List ℕ)) (due more : List ℕ) → AppendsPrefix a b due → AppendsPrefix a b (due ++ more)
+AppendsPrefix-longer a b due more p =
+    record { front = p.front; rest = p.rest ++ more; split = ap (λ l. l ++ more) p.split ∙ append_assoc p.front p.rest more; appended = p.appended }
+
+-- a text and then a first part of another is a first part of both
+pub AppendsPrefix-after : (a b c : Option (List ℕ)) (written due : List ℕ) → Appends a b written → AppendsPrefix b c due → AppendsPrefix a c (written ++ due)
+AppendsPrefix-after a b c written due first p =
+    record {
+      front = written ++ p.front;
+      rest = p.rest;
+      split = ap (λ l. written ++ l) p.split ∙ sym (append_assoc written p.front p.rest);
+      appended = Appends-trans a b c _ _ first p.appended;
+    }
+
+-- where the sink tells its bytes, some bytes more would make all that was due
+pub AppendsPrefix-told : (old new due : List ℕ) → AppendsPrefix (Some old) (Some new) due → (rest : List ℕ) × (new ++ rest ≡ old ++ due)
+AppendsPrefix-told old new due p =
+    (p.rest, ap (λ l. l ++ p.rest) p.appended ∙ append_assoc old p.front p.rest ∙ ap (λ l. old ++ l) (sym p.split))
+
+-- ---- what a source gave
+
+-- a source that tells its bytes gave just these
+pub GivesAll-told : (told : List ℕ) (new : Option (List ℕ)) (bytes : List ℕ) → GivesAll (Some told) new bytes → bytes ≡ told
+GivesAll-told told None bytes all = absurd all.given
+GivesAll-told told (Some left) bytes all = sym (all.given ∙ ap (λ l. bytes ++ l) all.ended ∙ append-nil bytes)
+
+-- bytes and then all others are all
+pub GivesAll-after : (a b c : Option (List ℕ)) (front rest : List ℕ) → Consumes a b front → GivesAll b c rest → GivesAll a c (front ++ rest)
+GivesAll-after a b c front rest first all = record { given = Consumes-trans a b c _ _ first all.given; ended = all.ended }
+
+-- nothing is at most any number of bytes
+pub TakesAtMost-none : (n : ℕ) (a : Option (List ℕ)) → TakesAtMost n a a
+TakesAtMost-none n a = record { bytes = []; taken = Consumes-nil a; count = omega arith }
+
+-- a higher bound holds too
+pub TakesAtMost-weaker : (n m : ℕ) (a b : Option (List ℕ)) → n ≤ m → TakesAtMost n a b → TakesAtMost m a b
+TakesAtMost-weaker n m a b higher p = record { bytes = p.bytes; taken = p.taken; count = omega (arith, p.count) }
+
+-- a text that is made of all that a source gave, and a sink that got it
+pub Delivers-of_parts : (Makes : List ℕ → List ℕ → Type 0) (left left' written written' : Option (List ℕ)) (bytes text : List ℕ)
+    → GivesAll left left' bytes → Makes bytes text → Appends written written' text → Delivers Makes left left' written written'
+Delivers-of_parts Makes left left' written written' bytes text gave makes got =
+    record { bytes = bytes; text = text; gave = gave; makes = makes; got = got }
+
+-- the same, where the sink got only a first part
+pub DeliversPart-of_parts : (Makes : List ℕ → List ℕ → Type 0) (left left' written written' : Option (List ℕ)) (bytes text : List ℕ)
+    → GivesAll left left' bytes → Makes bytes text → AppendsPrefix written written' text → DeliversPart Makes left left' written written'
+DeliversPart-of_parts Makes left left' written written' bytes text gave makes got =
+    record { bytes = bytes; text = text; gave = gave; makes = makes; got = got }

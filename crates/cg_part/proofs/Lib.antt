@@ -1,0 +1,4 @@
+pub mod CodeLemmas
+pub mod InstructionLemmas
+pub mod Tables
+pub mod TextLemmas

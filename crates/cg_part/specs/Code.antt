@@ -1,0 +1,71 @@
+-- The code of a function that returns a constant or one of its arguments.
+use Rattle.std.specs.Prelude.{◌+◌, ◌-◌, ℕ, ℤ, pos, Option, Some, None, List, [], ◌∷◌, ◌++◌, map, position, length, if◌then◌else◌}
+use Rattle.std.specs.List.{range_with_len}
+use Rattle.ir_syntax.specs.Literals.{literal_value}
+use Rattle.ir_syntax.specs.Names.{same_name}
+use Rattle.ir_syntax.specs.declared.block.Block.{Block}
+use Rattle.ir_syntax.specs.declared.block.Operand.{Operand}
+use Rattle.ir_syntax.specs.declared.block.Operand.TheVariants.{Local, Int}
+use Rattle.ir_syntax.specs.declared.block.Term.{Term}
+use Rattle.ir_syntax.specs.declared.block.Term.TheVariants.{Ret}
+use Rattle.ir_syntax.specs.declared.function.Function.{Function}
+use Rattle.ir_syntax.specs.declared.function.Param.{Param}
+use Rattle.ir_syntax.specs.declared.name.Name.{Name}
+use Rattle.rv_isa.specs.Text.{is_zero}
+use Rattle.rv_isa.specs.declared.inst.Inst.{Inst}
+use Rattle.rv_isa.specs.declared.inst.Op.TheVariants.{Addi, Jalr}
+
+-- adds a constant to a register
+abbrev pub addi : ℕ → ℕ → ℤ → Inst
+addi rd rs1 imm = record { op = Addi; rd = rd; rs1 = rs1; rs2 = 0; imm = imm }
+
+-- copies a register
+abbrev pub move : ℕ → ℕ → Inst
+move rd rs1 = addi rd rs1 (pos 0)
+
+-- goes back to the caller: jumps to ra, which is x1
+abbrev pub return : Inst
+return = record { op = Jalr; rd = 0; rs1 = 1; rs2 = 0; imm = pos 0 }
+
+-- count argument registers from the given one on, each copied into rd; a0 is x10
+abbrev pub copies : ℕ → ℕ → ℕ → List Inst
+copies rd first count = map (λ i. move rd (10 + i)) (range_with_len first count)
+
+-- Of count arguments the one at a place is returned. t0, which is x5, has it after the copies up to it,
+-- and those after it go into t1, which is x6.
+abbrev pub argument_code : ℕ → ℕ → List Inst
+argument_code count place =
+    copies 5 0 (place + 1) ++ copies 6 (place + 1) (count - (place + 1)) ++ move 10 5 ∷ return ∷ []
+
+-- a constant goes into a0, by way of t0; 0 needs no register of its own
+abbrev pub value_code : ℤ → List Inst
+value_code value = if is_zero value then addi 10 0 (pos 0) ∷ [] else addi 5 0 value ∷ move 10 5 ∷ []
+
+-- a constant is returned
+abbrev pub constant_code : ℕ → ℤ → List Inst
+constant_code count value = copies 5 0 count ++ value_code value ++ return ∷ []
+
+-- the place of a parameter among those of its function
+abbrev pub place_of : Name → List Param → Option ℕ
+place_of name params = position (λ p. same_name p.name name) params
+
+abbrev pub code_at : ℕ → Option ℕ → List Inst
+code_at count (Some place) = argument_code count place
+code_at count None = []
+
+abbrev pub operand_code : List Param → Operand → List Inst
+operand_code params (Local name) = code_at (length params) (place_of name params)
+operand_code params (Int literal) = constant_code (length params) (literal_value literal)
+
+abbrev pub term_code : List Param → Term → List Inst
+term_code params (Ret line ty value) = operand_code params value
+
+-- a body of one block; a declaration has no code
+abbrev pub body_code : List Param → Option (List Block) → List Inst
+body_code params None = []
+body_code params (Some []) = []
+body_code params (Some (block ∷ [])) = term_code params block.term
+body_code params (Some (block ∷ next ∷ more)) = []
+
+abbrev pub function_code : Function → List Inst
+function_code f = body_code f.params f.blocks

@@ -1,0 +1,4 @@
+pub mod Built
+pub mod Code
+pub mod Resolving
+pub mod Text

@@ -1,0 +1,32 @@
+-- An instruction with another immediate that its format holds is an instruction.
+use Rattle.std.proofs.Common.{ℕ, ℤ, pos, ◌<◌, arith}
+use Rattle.std.proofs.lemmas.Int.{ints}
+use Rattle.rv_isa.specs.Encoding.{Row, r_type, i_type, s_type, b_type, u_type, j_type, whole, row, FitsRow, IsInst, IsSigned12}
+use Rattle.rv_isa.specs.Relocation.{HoldsHigh, HoldsLow}
+use Rattle.rv_isa.specs.declared.inst.Inst.{Inst}
+
+high_fits_row : (r : Row) (i : Inst) (n : ℕ) → HoldsHigh r → FitsRow r i → n < 0x100000 → FitsRow r (record i { imm = pos n })
+high_fits_row (u_type opcode) i n holds fits bound = (fits.0, fits.1, grind (arith, ints))
+high_fits_row (r_type opcode funct3 funct7) i n holds fits bound = absurd holds
+high_fits_row (i_type opcode funct3) i n holds fits bound = absurd holds
+high_fits_row (s_type opcode funct3) i n holds fits bound = absurd holds
+high_fits_row (b_type opcode funct3) i n holds fits bound = absurd holds
+high_fits_row (j_type opcode) i n holds fits bound = absurd holds
+high_fits_row (whole word) i n holds fits bound = absurd holds
+
+low_fits_row : (r : Row) (i : Inst) (imm : ℤ) → HoldsLow r → FitsRow r i → IsSigned12 imm → FitsRow r (record i { imm = imm })
+low_fits_row (i_type opcode funct3) i imm holds fits signed = (fits.0, signed)
+low_fits_row (r_type opcode funct3 funct7) i imm holds fits signed = absurd holds
+low_fits_row (s_type opcode funct3) i imm holds fits signed = absurd holds
+low_fits_row (b_type opcode funct3) i imm holds fits signed = absurd holds
+low_fits_row (u_type opcode) i imm holds fits signed = absurd holds
+low_fits_row (j_type opcode) i imm holds fits signed = absurd holds
+low_fits_row (whole word) i imm holds fits signed = absurd holds
+
+pub high_is_inst : (i : Inst) (n : ℕ) → IsInst i → HoldsHigh (row i.op) → n < 0x100000 → IsInst (record i { imm = pos n })
+high_is_inst i n is holds bound =
+    record { rd = is.rd; rs1 = is.rs1; rs2 = is.rs2; row = high_fits_row (row i.op) i n holds is.row bound }
+
+pub low_is_inst : (i : Inst) (imm : ℤ) → IsInst i → HoldsLow (row i.op) → IsSigned12 imm → IsInst (record i { imm = imm })
+low_is_inst i imm is holds signed =
+    record { rd = is.rd; rs1 = is.rs1; rs2 = is.rs2; row = low_fits_row (row i.op) i imm holds is.row signed }
