@@ -2,6 +2,7 @@
 use Rattle.std.proofs.Common.{◌≡◌, ◌<◌, ◌+◌, ◌++◌, ◌∷◌, [], ℕ, List, get_or, take, length, ap, sym, ◌∙◌, append_assoc, map, codes, cond, true, false, Bool, not, ◌&&◌, ◌||◌, refl}
 use Rattle.std.specs.List.{flat_map, list_all}
 use Rattle.std.specs.Prelude.{◌==◌}
+use Rattle.std.proofs.lemmas.Bool.{and_from, and_parts}
 use Rattle.std.proofs.lemmas.List.{append-nil, take_more}
 use Rattle.std.proofs.lemmas.Grind.{flat_map-append}
 use Rattle.ir_syntax.specs.declared.function.Function.{Function}
@@ -34,9 +35,9 @@ pub head_written : (old a b c d new symbol : List ℕ) →
 head_written old a b c d new symbol first second third fourth fifth =
     fifth
     ∙ ap (λ text. text ++ codes ":\n")
-      (fourth
-        ∙ ap (λ text. text ++ symbol)
-          (third ∙ ap (λ text. text ++ codes "\n\t.p2align\t2\n") (second ∙ ap (λ text. text ++ symbol) first)))
+    (fourth
+    ∙ ap (λ text. text ++ symbol)
+    (third ∙ ap (λ text. text ++ codes "\n\t.p2align\t2\n") (second ∙ ap (λ text. text ++ symbol) first)))
     ∙ head_pieces old symbol
 
 -- a head and code, written one after the other
@@ -54,35 +55,27 @@ function_written old head new symbol code f named coded first second =
     ∙ ap (λ is. old ++ text_of_lines (head_lines (symbol_of f) ++ map instruction_line is)) coded
 
 -- a plain name stands without quotes
-and_true : (a b : Bool) → a ≡ true → b ≡ true → (a && b) ≡ true
-and_true true b h k = k
-and_true false b h k = absurd (cc)
-
-both_true : (a b : Bool) → (a && b) ≡ true → (a ≡ true) × (b ≡ true)
-both_true true b h = (refl, h)
-both_true false b h = absurd (cc)
-
 either_true : (a b c : Bool) → a ≡ true → (a || b || c) ≡ true
 either_true true b c h = refl
 either_true false b c h = absurd (cc)
 
-plain_symbol_byte : (b : ℕ) → is_plain_byte b ≡ true → is_symbol_byte b ≡ true
+pub plain_symbol_byte : (b : ℕ) → is_plain_byte b ≡ true → is_symbol_byte b ≡ true
 plain_symbol_byte b plain = either_true (is_plain_byte b) (b == 46) (b == 36) plain
 
-all_symbol_bytes : (bytes : List ℕ) → list_all is_plain_byte bytes ≡ true → list_all is_symbol_byte bytes ≡ true
+pub all_symbol_bytes : (bytes : List ℕ) → list_all is_plain_byte bytes ≡ true → list_all is_symbol_byte bytes ≡ true
 all_symbol_bytes [] h = refl
 all_symbol_bytes (b ∷ bytes) h =
-    let parts = both_true (is_plain_byte b) (list_all is_plain_byte bytes) h in
-    and_true (is_symbol_byte b) (list_all is_symbol_byte bytes) (plain_symbol_byte b parts.0) (all_symbol_bytes bytes parts.1)
+    let parts = and_parts (is_plain_byte b) (list_all is_plain_byte bytes) h in
+    and_from (is_symbol_byte b) (list_all is_symbol_byte bytes) (plain_symbol_byte b parts.0) (all_symbol_bytes bytes parts.1)
 
 pub plain_is_bare : (name : List ℕ) → is_plain_name name ≡ true → is_bare name ≡ true
 plain_is_bare [] plain = absurd (cc)
 plain_is_bare (b ∷ bytes) plain =
-    let parts = both_true (is_plain_byte b && not (is_digit b)) (list_all is_plain_byte bytes) plain in
-    let first = both_true (is_plain_byte b) (not (is_digit b)) parts.0 in
-    and_true (is_symbol_byte b && not (is_digit b)) (list_all is_symbol_byte bytes)
-      (and_true (is_symbol_byte b) (not (is_digit b)) (plain_symbol_byte b first.0) first.1)
-      (all_symbol_bytes bytes parts.1)
+    let parts = and_parts (is_plain_byte b && not (is_digit b)) (list_all is_plain_byte bytes) plain in
+    let first = and_parts (is_plain_byte b) (not (is_digit b)) parts.0 in
+    and_from (is_symbol_byte b && not (is_digit b)) (list_all is_symbol_byte bytes)
+    (and_from (is_symbol_byte b) (not (is_digit b)) (plain_symbol_byte b first.0) first.1)
+    (all_symbol_bytes bytes parts.1)
 
 pub plain_spelled : (name : List ℕ) → is_plain_name name ≡ true → name ≡ spelled name
 plain_spelled name plain = ap (λ b. cond b name (34 ∷ (flat_map escaped name ++ 34 ∷ []))) (sym (plain_is_bare name plain))
@@ -96,9 +89,9 @@ pub part_more : (old out new : List ℕ) (functions : List Function) (place : �
 part_more old out new functions place f inside so_far is next =
     let front : List (List ℕ) = part_lines (take place functions) in
     let whole : part_lines (take (place + 1) functions) ≡ front ++ function_lines f =
-      ap part_lines (take_more functions place f inside)
-      ∙ flat_map-append function_lines (take place functions) (get_or functions place f ∷ [])
-      ∙ ap (λ lines. front ++ lines) (append-nil (function_lines (get_or functions place f)) ∙ ap function_lines (sym is)) in
+    ap part_lines (take_more functions place f inside)
+    ∙ flat_map-append function_lines (take place functions) (get_or functions place f ∷ [])
+    ∙ ap (λ lines. front ++ lines) (append-nil (function_lines (get_or functions place f)) ∙ ap function_lines (sym is)) in
     next
     ∙ ap (λ text. text ++ text_of_lines (function_lines f)) so_far
     ∙ append_assoc old (text_of_lines front) (text_of_lines (function_lines f))

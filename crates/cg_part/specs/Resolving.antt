@@ -1,6 +1,6 @@
 -- The symbols that a text defines, shows to others and needs, read off its lines, and when texts resolve.
 -- A symbol is given as it is spelled.
-use Rattle.std.specs.Prelude.{◌≡◌, ◌==◌, ◌&&◌, ◌||◌, ℕ, Bool, true, false, not, nat_eq, bytes_eq, Some, None, Option, List, [], ◌∷◌, ◌++◌, ◌⊎◌, drop, length, codes, map, flat_map, count_by, Contains, if◌then◌else◌}
+use Rattle.std.specs.Prelude.{◌≡◌, ◌==◌, ◌&&◌, ℕ, Bool, true, false, not, nat_eq, bytes_eq, is_some, List, [], ◌∷◌, ◌⊎◌, drop, length, codes, map, flat_map, count_by, Contains, if◌then◌else◌}
 use Rattle.std.specs.List.{starts_with, list_any, filter}
 use Rattle.ir_syntax.specs.declared.function.Function.{Function}
 use Rattle.ir_syntax.specs.declared.module.Module.{Module}
@@ -87,7 +87,7 @@ needs_of text = flat_map needed_in (pieces_of text)
 
 -- a function with a body is defined, one without is declared
 abbrev pub has_body : Function → Bool
-has_body f = elim f.blocks as (λ _. Bool) [ None ↦ false | Some blocks ↦ true ]
+has_body f = is_some f.blocks
 
 abbrev pub defined_symbols : Module → List (List ℕ)
 defined_symbols m = map symbol_of (filter has_body m.functions)
@@ -105,4 +105,4 @@ pub record Resolves (m : Module) (texts : List (List ℕ)) : Type 0 where
   pub defined : (symbol : List ℕ) → Contains (defined_symbols m) symbol → texts_with symbols_of symbol texts ≡ 1
   pub no_other : (text symbol : List ℕ) → Contains texts text → Contains (symbols_of text) symbol → Contains (defined_symbols m) symbol
   pub needed : (text symbol : List ℕ) → Contains texts text → Contains (needs_of text) symbol →
-    Contains (symbols_of text) symbol ⊎ (texts_with globals_of symbol texts ≡ 1) ⊎ Contains (declared_symbols m) symbol
+      Contains (symbols_of text) symbol ⊎ (texts_with globals_of symbol texts ≡ 1) ⊎ Contains (declared_symbols m) symbol

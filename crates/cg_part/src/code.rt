@@ -31,7 +31,11 @@ pub fn code_of(alloc: Global, function: &Function) -> Result<Vec<Inst>, AllocErr
     Ok(code)
 }
 
-fn push_body(code: &mut Vec<Inst>, params: &[Param], blocks: &Option<Blocks>) -> Result<(), AllocError>
+fn push_body(
+    code: &mut Vec<Inst>,
+    params: &[Param],
+    blocks: &Option<Blocks>,
+) -> Result<(), AllocError>
     requires arguments { length params.now ≤ 8 }
     requires body { IsBuiltBody blocks.now }
     ensures { OnOk result (code.new.items ≡ code.old.items ++ body_code params.now blocks.now) }
@@ -59,10 +63,14 @@ fn push_term(code: &mut Vec<Inst>, params: &[Param], term: &Term) -> Result<(), 
     ensures { OnOk result (code.new.items ≡ code.old.items ++ term_code params.now term.now) }
 {
     match term {
-        Term::Ret { value: Operand::Local(name), .. } => push_parameter(code, params, name),
-        Term::Ret { value: Operand::Int(literal), .. } => {
-            push_constant(code, params.len() as u8, immediate_of(*literal))
-        }
+        Term::Ret {
+            value: Operand::Local(name),
+            ..
+        } => push_parameter(code, params, name),
+        Term::Ret {
+            value: Operand::Int(literal),
+            ..
+        } => { push_constant(code, params.len() as u8, immediate_of(*literal)) }
     }
 }
 
@@ -156,11 +164,23 @@ fn push_copies(code: &mut Vec<Inst>, rd: u8, first: u8, end: u8) -> Result<(), A
 fn add_immediate(rd: u8, rs1: u8, imm: i64) -> Inst
     ensures { result ≡ addi rd rs1 imm }
 {
-    Inst { op: Op::Addi, rd, rs1, rs2: 0, imm }
+    Inst {
+        op: Op::Addi,
+        rd,
+        rs1,
+        rs2: 0,
+        imm,
+    }
 }
 
 fn return_to_caller() -> Inst
     ensures { result ≡ return }
 {
-    Inst { op: Op::Jalr, rd: 0, rs1: RA, rs2: 0, imm: 0 }
+    Inst {
+        op: Op::Jalr,
+        rd: 0,
+        rs1: RA,
+        rs2: 0,
+        imm: 0,
+    }
 }

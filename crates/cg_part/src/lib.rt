@@ -6,4 +6,3 @@ mod print;
 mod text;
 
 pub use text::text_of;
-

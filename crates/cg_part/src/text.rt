@@ -19,13 +19,19 @@ use std::alloc::{AllocError, Global};
 pub fn text_of(alloc: Global, m: &Module) -> Result<Vec<u8>, AllocError>
     requires { IsBuilt m.now }
     ensures text { IfOk result (λ text. text.items ≡ part_text m.now) }
+    // Each symbol that the module defines stands in it, no other does, and it needs none from elsewhere.
+    ensures resolves { IfOk result (λ text. Resolves m.now (text.items ∷ [])) }
 {
     let mut out = Vec::new(alloc);
     push_functions(alloc, &mut out, m.functions.as_slice())?;
     Ok(out)
 }
 
-fn push_functions(alloc: Global, out: &mut Vec<u8>, functions: &[Function]) -> Result<(), AllocError>
+fn push_functions(
+    alloc: Global,
+    out: &mut Vec<u8>,
+    functions: &[Function],
+) -> Result<(), AllocError>
     requires { All IsBuiltFunction functions.now }
     ensures { OnOk result (out.new.items ≡ out.old.items ++ text_of_lines (part_lines functions.now)) }
 {

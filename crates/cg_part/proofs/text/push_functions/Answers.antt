@@ -6,4 +6,4 @@ pub loop-function-preserved : goal.loop-function-preserved
 loop-function-preserved c =
     let inside : c.loop-function.function-index < length c.args.functions.now = omega arith in
     part_more _ _ _ c.args.functions.now c.loop-function.function-index _ inside c.loop-function.invariant c.function-item.is
-      c.in_ok-push_function.ensures
+    c.in_ok-push_function.ensures

@@ -1,7 +1,11 @@
-use Rattle.std.proofs.Common.{rules}
+use Rattle.std.proofs.Common.{◌≡◌, ◌∷◌, [], ℕ, List, rules, sym, subst}
+use Rattle.cg_part.specs.Resolving.{Resolves}
 use Rattle.cg_part.specs.Text.{part_text}
+use Rattle.cg_part.proofs.ResolvingLemmas.{text_resolves}
 use Rattle.cg_part.proofs.text.text_of.Goals as goal
 
 pub returns : goal.returns
 unfolding part_text
-returns c = search rules
+returns c =
+    let is : c.push_functions.new.out.items ≡ part_text c.args.m.now = search rules in
+    record { text = is; resolves = subst (λ (text : List ℕ). Resolves c.args.m.now (text ∷ [])) (sym is) (text_resolves c.args.m.now c.requires) }
