@@ -3,7 +3,7 @@ use Rattle.std.proofs.Common.{◌≡◌, ◌+◌, ◌++◌, ◌∷◌, [], ℕ, 
 use Rattle.std.specs.Prelude.{◌==◌, bytes_eq}
 use Rattle.std.specs.List.{flat_map, list_all, list_any, starts_with, filter, AllByRecursion as ByRecursion}
 use Rattle.std.proofs.Math.Seq.{drop-append_seam}
-use Rattle.std.proofs.lemmas.Bool.{and_from, and_parts, not-true, ne_eqb, both_ways, and_left}
+use Rattle.std.proofs.lemmas.Bool.{and_from, and_parts, ne_eqb, both_ways, and_left}
 use Rattle.std.proofs.lemmas.Cmp.{nat_list_eq_equiv}
 use Rattle.std.proofs.lemmas.List.{append-nil}
 use Rattle.std.proofs.lemmas.List.Elements.{recursion_from_All}
@@ -19,14 +19,14 @@ use Rattle.rv_isa.specs.Lines.{text_of_lines}
 use Rattle.rv_isa.specs.Symbol.{is_digit, is_symbol_byte}
 use Rattle.rv_isa.specs.Text.{instruction_line}
 use Rattle.rv_isa.specs.declared.inst.Inst.{Inst}
-use Rattle.cg_part.specs.Built.{IsBuilt, IsBuiltFunction, IsBuiltBody, is_plain_byte, is_plain_name}
+use Rattle.cg_part.specs.Built.{IsBuilt, IsBuiltFunction, IsBuiltBody, is_name, is_name_byte, starts_name}
 use Rattle.cg_part.specs.Code.{function_code}
 use Rattle.cg_part.specs.Resolving.{Resolves, defined_in, needed_in, after_percent, one_symbol, symbol_at, front_of, quoted_front, is_label, symbols_of, needs_of, has_body, defined_symbols}
 use Rattle.cg_part.specs.Text.{function_lines, head_lines, part_lines, part_text, symbol_of}
 use Rattle.cg_part.proofs.InstructionLemmas.{code_formed}
 use Rattle.cg_part.proofs.QuietLines.{IsQuiet, instruction_quiet}
 use Rattle.cg_part.proofs.Splitting.{stays, is_one_line, pieces-text}
-use Rattle.cg_part.proofs.TextLemmas.{plain_spelled, all_symbol_bytes}
+use Rattle.cg_part.proofs.TextLemmas.{name_spelled, start_in_name, start_no_digit, all_symbol_bytes, name_bytes_all}
 
 -- what a list of lines defines and needs
 pub record Holds (lines : List (List ℕ)) (symbols : List (List ℕ)) : Type 0 where
@@ -62,15 +62,15 @@ front-colon (b ∷ bytes) all =
     let parts = and_parts (is_symbol_byte b) (list_all is_symbol_byte bytes) all in
     ap (λ t. cond t (b ∷ front_of is_symbol_byte (bytes ++ 58 ∷ [])) []) parts.0 ∙ ap (λ front. b ∷ front) (front-colon bytes parts.1)
 
--- a byte that is not plain differs from each that is
-plain_is_no : (b c : ℕ) → is_plain_byte c ≡ false → is_plain_byte b ≡ true → b ≡ c → ⊥
-plain_is_no b c other plain same = both_ways (is_plain_byte c) other (subst (λ x. is_plain_byte x ≡ true) same plain)
+-- a byte that stands in no name differs from each that does
+differs : (b c : ℕ) → is_name_byte c ≡ false → is_name_byte b ≡ true → b ≡ c → ⊥
+differs b c other plain same = both_ways (is_name_byte c) other (subst (λ x. is_name_byte x ≡ true) same plain)
 
-one_line_symbol : (bytes : List ℕ) → list_all is_plain_byte bytes ≡ true → is_one_line bytes ≡ true
+one_line_symbol : (bytes : List ℕ) → list_all is_name_byte bytes ≡ true → is_one_line bytes ≡ true
 one_line_symbol [] all = refl
 one_line_symbol (b ∷ bytes) all =
-    let parts = and_parts (is_plain_byte b) (list_all is_plain_byte bytes) all in
-    and_from (stays b) (is_one_line bytes) (ap not (ne_eqb b 10 (λ e. plain_is_no b 10 refl parts.0 e))) (one_line_symbol bytes parts.1)
+    let parts = and_parts (is_name_byte b) (list_all is_name_byte bytes) all in
+    and_from (stays b) (is_one_line bytes) (ap not (ne_eqb b 10 (λ e. differs b 10 refl parts.0 e))) (one_line_symbol bytes parts.1)
 
 head_quiet_text : IsQuiet (codes "\t.text")
 head_quiet_text = record { one = refl; defines = refl; needs = refl }
@@ -88,13 +88,15 @@ record Begins (b : ℕ) : Type 0 where
   digit : is_digit b ≡ false
   point : nat_eq 46 b ≡ false
 
-begins : (b : ℕ) → is_plain_byte b ≡ true → not (is_digit b) ≡ true → Begins b
-begins b plain no_digit = record {
-  tab = ne_eqb 9 b (λ e. plain_is_no b 9 refl plain (sym e));
-  quote = ne_eqb b 34 (λ e. plain_is_no b 34 refl plain e);
-  digit = not-true (is_digit b) no_digit;
-  point = ne_eqb 46 b (λ e. plain_is_no b 46 refl plain (sym e));
-}
+begins : (b : ℕ) → starts_name b ≡ true → Begins b
+begins b start =
+    let named : is_name_byte b ≡ true = start_in_name b start in
+    record {
+      tab = ne_eqb 9 b (λ e. differs b 9 refl named (sym e));
+      quote = ne_eqb b 34 (λ e. differs b 34 refl named e);
+      digit = start_no_digit b start;
+      point = ne_eqb 46 b (λ e. differs b 46 refl named (sym e));
+    }
 
 symbol_at-colon : (b : ℕ) (bytes : List ℕ) → Begins b → list_all is_symbol_byte (b ∷ bytes) ≡ true → symbol_at ((b ∷ bytes) ++ 58 ∷ []) ≡ b ∷ bytes
 symbol_at-colon b bytes first all =
@@ -129,40 +131,36 @@ symbol_needs b rest first =
     ∙ ap in_lines no_directive
     ∙ ap in_code no_code
 
-symbol_line : (name : List ℕ) → is_plain_name name ≡ true → Holds ((name ++ codes ":") ∷ []) (name ∷ [])
-symbol_line [] plain = absurd (cc)
-symbol_line (b ∷ bytes) plain =
-    let parts = and_parts (is_plain_byte b && not (is_digit b)) (list_all is_plain_byte bytes) plain in
-    let front = and_parts (is_plain_byte b) (not (is_digit b)) parts.0 in
-    let all : list_all is_plain_byte (b ∷ bytes) ≡ true = and_from (is_plain_byte b) (list_all is_plain_byte bytes) front.0 parts.1 in
-    let first : Begins b = begins b front.0 front.1 in
+symbol_line : (name : List ℕ) → is_name name ≡ true → Holds ((name ++ codes ":") ∷ []) (name ∷ [])
+symbol_line [] named = absurd (cc)
+symbol_line (b ∷ bytes) named =
+    let all : list_all is_name_byte (b ∷ bytes) ≡ true = name_bytes_all b bytes named in
+    let first : Begins b = begins b (and_parts (starts_name b) (list_all is_name_byte bytes) named).0 in
     record {
       one = and_from (is_one_line ((b ∷ bytes) ++ codes ":")) true
-          (list_all-append stays (b ∷ bytes) (codes ":") ∙ and_from (is_one_line (b ∷ bytes)) true (one_line_symbol (b ∷ bytes) all) refl) refl;
+        (list_all-append stays (b ∷ bytes) (codes ":") ∙ and_from (is_one_line (b ∷ bytes)) true (one_line_symbol (b ∷ bytes) all) refl) refl;
       defines = ap (λ symbols. symbols ++ []) (symbol_defines b bytes first (all_symbol_bytes (b ∷ bytes) all));
       needs = ap (λ symbols. symbols ++ []) (symbol_needs b (bytes ++ codes ":") first);
     }
 
-one_line_name : (name : List ℕ) → is_plain_name name ≡ true → is_one_line name ≡ true
-one_line_name [] plain = refl
-one_line_name (b ∷ bytes) plain =
-    let parts = and_parts (is_plain_byte b && not (is_digit b)) (list_all is_plain_byte bytes) plain in
-    one_line_symbol (b ∷ bytes) (and_from (is_plain_byte b) (list_all is_plain_byte bytes) (and_parts (is_plain_byte b) (not (is_digit b)) parts.0).0 parts.1)
+one_line_name : (name : List ℕ) → is_name name ≡ true → is_one_line name ≡ true
+one_line_name [] named = refl
+one_line_name (b ∷ bytes) named = one_line_symbol (b ∷ bytes) (name_bytes_all b bytes named)
 
 -- the lines of a function whose symbol is its name
-named_holds : (name : List ℕ) (code : List Inst) → is_plain_name name ≡ true → ByRecursion IsInst code →
+named_holds : (name : List ℕ) (code : List Inst) → is_name name ≡ true → ByRecursion IsInst code →
     Holds (head_lines name ++ map instruction_line code) (name ∷ [])
-named_holds name code plain formed =
+named_holds name code named formed =
     holds-quiet _ _ _ head_quiet_text
-    (holds-quiet _ _ _ (head_quiet_global name (one_line_name name plain))
+    (holds-quiet _ _ _ (head_quiet_global name (one_line_name name named))
     (holds-quiet _ _ _ head_quiet_align
-    (holds-append ((name ++ codes ":") ∷ []) (map instruction_line code) (name ∷ []) [] (symbol_line name plain) (code_holds code formed))))
+    (holds-append ((name ++ codes ":") ∷ []) (map instruction_line code) (name ∷ []) [] (symbol_line name named) (code_holds code formed))))
 
 function_holds : (f : Function) → IsBuiltFunction f → Holds (function_lines f) (symbol_of f ∷ [])
 unfolding function_lines
 function_holds f built =
     subst (λ symbol. Holds (head_lines symbol ++ map instruction_line (function_code f)) (symbol ∷ []))
-    (plain_spelled (name_bytes f.name) built.name)
+    (name_spelled (name_bytes f.name) built.name)
     (named_holds (name_bytes f.name) (function_code f) built.name (recursion_from_All IsInst (function_code f) (code_formed f built)))
 
 part_holds : (functions : List Function) → ByRecursion IsBuiltFunction functions → Holds (part_lines functions) (map symbol_of functions)

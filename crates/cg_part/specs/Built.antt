@@ -1,5 +1,5 @@
 -- The functions that are built today.
-use Rattle.std.specs.Prelude.{◌≤◌, ◌&&◌, ◌||◌, ◌==◌, ℕ, Bool, false, not, Option, Some, None, List, [], ◌∷◌, length, All, IsTrue}
+use Rattle.std.specs.Prelude.{◌≤◌, ◌&&◌, ◌||◌, ◌==◌, ℕ, Bool, false, Option, Some, None, List, [], ◌∷◌, length, All, IsTrue}
 use Rattle.std.specs.List.{list_all}
 use Rattle.ir_syntax.specs.Literals.{literal_value}
 use Rattle.ir_syntax.specs.Names.{name_bytes}
@@ -14,13 +14,17 @@ use Rattle.rv_isa.specs.Encoding.{IsSigned12}
 use Rattle.rv_isa.specs.Symbol.{is_digit, is_letter}
 
 -- a letter, a digit or `_`
-abbrev pub is_plain_byte : ℕ → Bool
-is_plain_byte b = is_letter b || is_digit b || b == 95
+abbrev pub is_name_byte : ℕ → Bool
+is_name_byte b = is_letter b || is_digit b || b == 95
 
--- one or more plain bytes, the first no digit
-abbrev pub is_plain_name : List ℕ → Bool
-is_plain_name [] = false
-is_plain_name (b ∷ bytes) = is_plain_byte b && not (is_digit b) && list_all is_plain_byte bytes
+-- a byte that a name may begin with: a letter or `_`
+abbrev pub starts_name : ℕ → Bool
+starts_name b = is_letter b || b == 95
+
+-- a letter or `_`, then letters, digits and `_`
+abbrev pub is_name : List ℕ → Bool
+is_name [] = false
+is_name (b ∷ bytes) = starts_name b && list_all is_name_byte bytes
 
 -- a parameter, or a number that one instruction can load
 abbrev pub IsBuiltOperand : Operand → Type 0
@@ -39,7 +43,7 @@ IsBuiltBody (Some (block ∷ next ∷ more)) = ⊥
 
 -- a definition whose name needs no quotes, whose arguments have registers, and that returns at once
 pub record IsBuiltFunction (f : Function) : Type 0 where
-  pub name : IsTrue (is_plain_name (name_bytes f.name))
+  pub name : IsTrue (is_name (name_bytes f.name))
   pub arguments : length f.params ≤ 8
   pub body : IsBuiltBody f.blocks
 

@@ -5,7 +5,7 @@ ghost use Rattle.rv_isa.specs.Encoding.{IsInst};
 ghost use Rattle.rv_isa.specs.Lines.{text_of_lines};
 ghost use Rattle.rv_isa.specs.Symbol.{is_bare};
 ghost use Rattle.rv_isa.specs.Text.{instruction_line};
-ghost use Rattle.cg_part.specs.Built.{IsBuilt, IsBuiltFunction, is_plain_name};
+ghost use Rattle.cg_part.specs.Built.{IsBuilt, IsBuiltFunction, is_name};
 ghost use Rattle.cg_part.specs.Resolving.{Resolves};
 ghost use Rattle.cg_part.specs.Text.{part_text, function_lines, head_lines, part_lines};
 
