@@ -138,7 +138,7 @@ symbol_line (b ∷ bytes) named =
     let first : Begins b = begins b (and_parts (starts_name b) (list_all is_name_byte bytes) named).0 in
     record {
       one = and_from (is_one_line ((b ∷ bytes) ++ codes ":")) true
-        (list_all-append stays (b ∷ bytes) (codes ":") ∙ and_from (is_one_line (b ∷ bytes)) true (one_line_symbol (b ∷ bytes) all) refl) refl;
+          (list_all-append stays (b ∷ bytes) (codes ":") ∙ and_from (is_one_line (b ∷ bytes)) true (one_line_symbol (b ∷ bytes) all) refl) refl;
       defines = ap (λ symbols. symbols ++ []) (symbol_defines b bytes first (all_symbol_bytes (b ∷ bytes) all));
       needs = ap (λ symbols. symbols ++ []) (symbol_needs b (bytes ++ codes ":") first);
     }

@@ -93,7 +93,7 @@ name_is_bare (b ∷ bytes) named =
     let start : starts_name b ≡ true = (and_parts (starts_name b) (list_all is_name_byte bytes) named).0 in
     let all = and_parts (is_symbol_byte b) (list_all is_symbol_byte bytes) (all_symbol_bytes (b ∷ bytes) (name_bytes_all b bytes named)) in
     and_from (is_symbol_byte b && not (is_digit b)) (list_all is_symbol_byte bytes)
-      (and_from (is_symbol_byte b) (not (is_digit b)) all.0 (ap not (start_no_digit b start))) all.1
+    (and_from (is_symbol_byte b) (not (is_digit b)) all.0 (ap not (start_no_digit b start))) all.1
 
 -- a name stands without quotes
 pub name_spelled : (name : List ℕ) → is_name name ≡ true → name ≡ spelled name

@@ -1,0 +1,16 @@
+pub mod Apart
+pub mod Constants
+pub mod Feeds
+pub mod Heads
+pub mod LineTexts
+pub mod Names
+pub mod Outcomes
+pub mod ParamTexts
+pub mod Params
+pub mod Refusals
+pub mod Returns
+pub mod Sources
+pub mod Stages
+pub mod Stuck
+pub mod Tests
+pub mod Words

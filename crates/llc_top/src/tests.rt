@@ -1,0 +1,178 @@
+use super::*;
+use cg_io::{MemSink, MemSource};
+use std::test::Fail;
+
+const ARGUMENT: &str = "define i64 @a(i64 %x, i64 %y) {\n  ret i64 %y\n}\n";
+
+/// What the program answers to a text, and what it writes on its two sinks.
+#[derive(Drop)]
+struct Told {
+    status: Status,
+    out: Vec<u8>,
+    err: Vec<u8>,
+}
+
+/// Runs the program with `compile` over memory.
+fn compile(rt: &HostRuntime, text: &[u8]) -> Result<Told, Fail> {
+    let words = ["llc", "compile"].as_slice();
+    run_words(rt, words, text)
+}
+
+fn run_words(rt: &HostRuntime, words: &[&str], text: &[u8]) -> Result<Told, Fail> {
+    let alloc = rt.alloc();
+    let mut owned = Vec::new(alloc);
+    for word in words {
+        owned.push(String::from_str(alloc, word)?)?;
+    }
+    let mut src = MemSource::new(text.to_vec(alloc)?, 7, Vec::new(alloc));
+    let mut out = MemSink::new(alloc, 4096, Vec::new(alloc))?;
+    let mut err = MemSink::new(alloc, 4096, Vec::new(alloc))?;
+    let status = run_llc(alloc, &owned, &mut src, &mut out, &mut err);
+    Ok(Told {
+        status,
+        out: out.bytes().to_vec(alloc)?,
+        err: err.bytes().to_vec(alloc)?,
+    })
+}
+
+#[test]
+fn modules_compile_to_their_assembly(rt: HostRuntime) -> Result<(), Fail> {
+    for (text, body) in [
+        (
+            ARGUMENT,
+            "\tmv\tt0, a0\n\tmv\tt0, a1\n\tmv\ta0, t0\n\tret\n",
+        ),
+        (
+            "define i32 @a() {\n  ret i32 -7\n}\n",
+            "\tli\tt0, -7\n\tmv\ta0, t0\n\tret\n",
+        ),
+        (
+            "define i64 @a() {\n  ret i64 2047\n}\n",
+            "\tli\tt0, 2047\n\tmv\ta0, t0\n\tret\n",
+        ),
+        (
+            "define i64 @a(i64 %x) {\n  ret i64 0\n}\n",
+            "\tmv\tt0, a0\n\tli\ta0, 0\n\tret\n",
+        ),
+    ] {
+        let told = compile(&rt, text.as_bytes())?;
+        assert_eq!(rt; told.status, Status::Done, "{text}");
+        let mut due = String::from_str(
+            rt.alloc(),
+            "#--- part 0\n\t.text\n\t.globl\ta\n\t.p2align\t2\na:\n",
+        )?;
+        due.push_str(body)?;
+        assert_eq!(rt; told.out.as_slice(), due.as_bytes(), "{text}");
+        assert_eq!(rt; told.err.len(), 0, "{text}");
+    }
+    Ok(())
+}
+
+#[test]
+fn the_empty_text_is_one_empty_part(rt: HostRuntime) -> Result<(), Fail> {
+    let told = compile(&rt, b"")?;
+    assert_eq!(rt; told.status, Status::Done);
+    assert_eq!(rt; told.out.as_slice(), b"#--- part 0\n".as_slice());
+    Ok(())
+}
+
+#[test]
+fn texts_outside_the_built_set_are_refused_by_line(rt: HostRuntime) -> Result<(), Fail> {
+    for (text, err) in [
+        (
+            "define i32 @a() {\n  ret i32 2048\n}\n",
+            "llc: refused 18 NotYet 2\n",
+        ),
+        (
+            "define i64 @a() {\r\n  ret i64 0\r\n}\r\n",
+            "llc: refused 18 NotYet 1\n",
+        ),
+        (
+            "define i64 @a() {\n  ret i64 0\n}",
+            "llc: refused 18 NotYet 3\n",
+        ),
+    ] {
+        let told = compile(&rt, text.as_bytes())?;
+        assert_eq!(rt; told.status, Status::Refused, "{text}");
+        assert_eq!(rt; told.err.as_slice(), err.as_bytes(), "{text}");
+        assert_eq!(rt; told.out.len(), 0, "{text}");
+    }
+    let told = compile(&rt, b"\xff\xfe\n")?;
+    assert_eq!(rt;
+        told.err.as_slice(),
+        b"llc: refused 18 NotYet 1\n".as_slice()
+    );
+    Ok(())
+}
+
+#[test]
+fn other_words_are_refused(rt: HostRuntime) -> Result<(), Fail> {
+    for words in [
+        ["llc", "compile", "x"].as_slice(),
+        ["llc", "Compile"].as_slice(),
+        ["llc"].as_slice(),
+        [].as_slice(),
+    ] {
+        let told = run_words(&rt, words, ARGUMENT.as_bytes())?;
+        assert_eq!(rt; told.status, Status::Words);
+        assert_eq!(rt; told.err.as_slice(), b"llc: words\n".as_slice());
+    }
+    Ok(())
+}
+
+#[test]
+fn faults_of_the_streams_are_told(rt: HostRuntime) -> Result<(), Fail> {
+    let alloc = rt.alloc();
+    let words = [
+        String::from_str(alloc, "llc")?,
+        String::from_str(alloc, "compile")?,
+    ];
+
+    let mut src = MemSource::new(ARGUMENT.as_bytes().to_vec(alloc)?, 8, [2].to_vec(alloc)?);
+    let mut out = MemSink::new(alloc, 4096, Vec::new(alloc))?;
+    let mut err = MemSink::new(alloc, 4096, Vec::new(alloc))?;
+    assert_eq!(rt;
+        run_llc(alloc, &words, &mut src, &mut out, &mut err),
+        Status::ReadFault
+    );
+    assert_eq!(rt; src.fault_count(), 1);
+    assert_eq!(rt; err.bytes(), b"llc: read fault\n".as_slice());
+
+    let mut src = MemSource::new(ARGUMENT.as_bytes().to_vec(alloc)?, 8, Vec::new(alloc));
+    let mut out = MemSink::new(alloc, 4096, [1].to_vec(alloc)?)?;
+    let mut err = MemSink::new(alloc, 4096, Vec::new(alloc))?;
+    assert_eq!(rt;
+        run_llc(alloc, &words, &mut src, &mut out, &mut err),
+        Status::WriteFault
+    );
+    assert_eq!(rt; out.fault_count(), 1);
+    assert_eq!(rt; out.bytes().len(), 0);
+    assert_eq!(rt; err.bytes().len(), 0);
+    Ok(())
+}
+
+#[test]
+fn more_than_sixteen_mebibytes_are_too_long(rt: HostRuntime) -> Result<(), Fail> {
+    let told = compile_rubbish(&rt, 16_777_217)?;
+    assert_eq!(rt;
+        told.as_slice(),
+        b"llc: refused 1 TooLong 16777217\n".as_slice()
+    );
+    let told = compile_rubbish(&rt, 16_777_216)?;
+    assert_eq!(rt; told.as_slice(), b"llc: refused 18 NotYet 1\n".as_slice());
+    Ok(())
+}
+
+/// What is told of a text of that many equal bytes.
+fn compile_rubbish(rt: &HostRuntime, bytes: usize) -> Result<Vec<u8>, Fail> {
+    let alloc = rt.alloc();
+    let words = [
+        String::from_str(alloc, "llc")?,
+        String::from_str(alloc, "compile")?,
+    ];
+    let mut src = MemSource::new(vec![in alloc; b'x'; bytes]?, 65_536, Vec::new(alloc));
+    let mut out = MemSink::new(alloc, 16, Vec::new(alloc))?;
+    let mut err = MemSink::new(alloc, 4096, Vec::new(alloc))?;
+    let _ = run_llc(alloc, &words, &mut src, &mut out, &mut err);
+    Ok(err.bytes().to_vec(alloc)?)
+}
