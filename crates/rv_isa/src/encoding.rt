@@ -168,7 +168,7 @@ mod tests {
         }
     }
 
-    /// Words that GNU as gives.
+    /// Words that LLVM's assembler gives.
     #[test]
     fn known_words_are_read(rt: HostRuntime) {
         let ecall = Inst {
