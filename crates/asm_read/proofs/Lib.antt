@@ -1,0 +1,17 @@
+pub mod BytesLemmas
+pub mod NumberLemmas
+pub mod SymbolLemmas
+pub mod LabelLemmas
+pub mod RegisterLemmas
+pub mod LineLemmas
+pub mod NameLemmas
+pub mod CheckLemmas
+pub mod TextLemmas
+pub mod BuildLemmas
+pub mod FormLemmas
+pub mod FeedLemmas
+pub mod PieceLemmas
+pub mod ReadLemmas
+pub mod BadLemmas
+pub mod AssemblyLemmas
+pub mod OrderLemmas

@@ -1,0 +1,7 @@
+use Rattle.std.proofs.Common.{◌≡◌, ℕ, List, take}
+use Rattle.std.specs.List.{list_any}
+use Rattle.asm_read.specs.Checks.{defines, has}
+use Rattle.asm_read.proofs.check.defined_names.Given as goal
+
+abbrev pub invariant-loop-line : goal.invariant-loop-line
+invariant-loop-line l = (q : List ℕ) → has l.names q ≡ list_any (defines q) (take l.line-index l.lines)
