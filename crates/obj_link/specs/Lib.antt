@@ -1,0 +1,5 @@
+pub mod Cause
+pub mod Layout
+pub mod Names
+pub mod Runtime
+pub mod Words

@@ -1,0 +1,20 @@
+//! A linker: the objects of a program and the runtime become one image at fixed addresses.
+#![tactic(auto)]
+
+mod image;
+mod inputs;
+mod laws;
+mod layout;
+mod linking;
+mod names;
+mod refusal;
+mod runtime;
+mod words;
+
+pub use image::{Addresses, Bytes, Image, ObjectAddresses, SymbolAddress};
+pub use laws::{needs_have_addresses, parts_make_the_address};
+pub use linking::link;
+pub use refusal::LinkRefusal;
+
+#[cfg(test)]
+mod tests;
