@@ -1,0 +1,4 @@
+pub mod Runs
+pub mod Registers
+pub mod Steps
+pub mod ImageWords

@@ -1,0 +1,17 @@
+//! The machine that runs linked images: the instructions of [`rv_isa::Op`] over an image and a stack,
+//! with calls of its environment that put a byte, get a byte and exit.
+//!
+//! Sections are of the RISC-V Instruction Set Manual, Volume I: Unprivileged Architecture.
+#![tactic(auto)]
+
+mod effect;
+mod laws;
+mod machine;
+mod memory;
+mod stop;
+#[cfg(test)]
+mod tests;
+
+pub use laws::{registers_stay_whole, runs_join, stopped_machine_stays};
+pub use machine::Machine;
+pub use stop::{Stop, TrapKind};

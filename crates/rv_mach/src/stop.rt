@@ -1,0 +1,29 @@
+//! How a machine ends.
+
+/// Where a machine stands after a run.
+#[derive(Clone, Copy, Debug, PartialEq, Eq)]
+pub enum Stop {
+    /// It exited with this code, the low 32 bits of `a0` at `ecall` 93.
+    Exited(u32),
+    /// It trapped.
+    Trapped(TrapKind),
+    /// The stack pointer was below the stack.
+    StackOut,
+    /// It did not stop yet.
+    Running,
+}
+
+/// What a machine can't do.
+#[derive(Clone, Copy, Debug, PartialEq, Eq)]
+pub enum TrapKind {
+    /// A word that is no instruction of the machine.
+    Illegal,
+    /// A fetch from an address that isn't a multiple of 4.
+    Misaligned,
+    /// A fetch from outside the image.
+    Unmapped,
+    /// An `ecall` with a number that the environment doesn't know.
+    Ecall,
+    /// An `ebreak`. No instruction traps so yet: it comes with `ebreak`.
+    Break,
+}
