@@ -13,6 +13,7 @@ use Rattle.std.proofs.lemmas.Grind.{flat_map-append}
 use Rattle.ir_syntax.specs.Names.{name_bytes}
 use Rattle.ir_syntax.specs.declared.block.Block.{Block}
 use Rattle.ir_syntax.specs.declared.function.Function.{Function}
+use Rattle.ir_syntax.specs.declared.function.Param.{Param}
 use Rattle.ir_syntax.specs.declared.module.Module.{Module}
 use Rattle.rv_isa.specs.Encoding.{IsInst}
 use Rattle.rv_isa.specs.Lines.{text_of_lines}
@@ -180,14 +181,14 @@ text_needs lines symbols holds =
     ∙ ap (λ all. all ++ []) holds.needs
 
 -- functions of the built set have bodies
-body_is_some : (blocks : Option (List Block)) → IsBuiltBody blocks → is_some blocks ≡ true
-body_is_some None built = absurd built
-body_is_some (Some blocks) built = refl
+body_is_some : (params : List Param) (blocks : Option (List Block)) → IsBuiltBody params blocks → is_some blocks ≡ true
+body_is_some params None built = absurd built
+body_is_some params (Some blocks) built = refl
 
 all_defined : (functions : List Function) → ByRecursion IsBuiltFunction functions → filter has_body functions ≡ functions
 all_defined [] built = refl
 all_defined (f ∷ functions) built =
-    ap (λ t. cond t (f ∷ filter has_body functions) (filter has_body functions)) (body_is_some f.blocks built.0.body)
+    ap (λ t. cond t (f ∷ filter has_body functions) (filter has_body functions)) (body_is_some f.params f.blocks built.0.body)
     ∙ ap (λ more. f ∷ more) (all_defined functions built.1)
 
 -- the one text of a list

@@ -1,4 +1,7 @@
+pub mod Allowed
 pub mod Built
 pub mod Code
+pub mod Meaning
+pub mod Program
 pub mod Resolving
 pub mod Text

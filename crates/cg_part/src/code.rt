@@ -37,7 +37,7 @@ fn push_body(
     blocks: &Option<Blocks>,
 ) -> Result<(), AllocError>
     requires arguments { length params.now ≤ 8 }
-    requires body { IsBuiltBody blocks.now }
+    requires body { IsBuiltBody params.now blocks.now }
     ensures { OnOk result (code.new.items ≡ code.old.items ++ body_code params.now blocks.now) }
 {
     match blocks {
@@ -48,7 +48,7 @@ fn push_body(
 
 fn push_blocks(code: &mut Vec<Inst>, params: &[Param], blocks: &[Block]) -> Result<(), AllocError>
     requires arguments { length params.now ≤ 8 }
-    requires body { IsBuiltBody (Some blocks.now) }
+    requires body { IsBuiltBody params.now (Some blocks.now) }
     ensures { OnOk result (code.new.items ≡ code.old.items ++ body_code params.now (Some blocks.now)) }
 {
     match blocks {
@@ -59,7 +59,7 @@ fn push_blocks(code: &mut Vec<Inst>, params: &[Param], blocks: &[Block]) -> Resu
 
 fn push_term(code: &mut Vec<Inst>, params: &[Param], term: &Term) -> Result<(), AllocError>
     requires arguments { length params.now ≤ 8 }
-    requires body { IsBuiltTerm term.now }
+    requires body { IsBuiltTerm params.now term.now }
     ensures { OnOk result (code.new.items ≡ code.old.items ++ term_code params.now term.now) }
 {
     match term {

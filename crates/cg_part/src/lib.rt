@@ -3,6 +3,8 @@
 
 mod code;
 mod print;
+mod program;
 mod text;
 
+pub use program::program_of;
 pub use text::text_of;

@@ -13,6 +13,10 @@ pub enum Refusal {
         /// The line of the first such item.
         line: u32,
     },
+    /// Number 14: a module that is to be run defines no function `main`.
+    NoMain,
+    /// Number 15: `main` has another type than the one that a run can call.
+    BadMain,
     /// Memory ran out.
     NoMemory,
 }

@@ -1,19 +1,29 @@
--- No text is both read and refused.
-use Rattle.std.proofs.Common.{◌≡◌, ◌≤◌, ℕ, List, Option, Some, None, length, ap, ◌∙◌, subst, arith}
+-- No text is both accepted and refused, and what is written is what the module allows.
+use Rattle.std.proofs.Common.{◌≡◌, ◌≤◌, ℕ, Bool, true, false, Option, Some, None, List, [], ◌∷◌, length, refl, ap, ◌∙◌, subst, arith, ◌&&◌, ◌||◌}
+use Rattle.std.specs.List.{list_any}
 use Rattle.std.specs.Io.KnownBytes.{Appends, Consumes}
+use Rattle.std.proofs.Math.Logic.{⊎_elim}
+use Rattle.std.proofs.lemmas.Bool.{and_parts, both_ways, or_cases}
 use Rattle.std.proofs.lemmas.List.{length-append}
 use Rattle.cg_io.specs.Told.{GivesAll, TakesExactly}
 use Rattle.cg_io.proofs.ToldLemmas.{GivesAll-told}
+use Rattle.cg_part.proofs.AllowedLemmas.{program_allowed, program_shows}
+use Rattle.cg_part.specs.Program.{IsProgram}
 use Rattle.cg_part.proofs.ResolvingLemmas.{text_resolves}
+use Rattle.ir_syntax.specs.declared.function.Function.{Function}
 use Rattle.ir_syntax.specs.declared.module.Module.{Module}
 use Rattle.ir_syntax.specs.declared.refusal.Refusal.{Refusal}
 use Rattle.ir_syntax.specs.declared.refusal.Refusal.TheVariants as refusals
-use Rattle.llc_top.specs.Outcome.{Outcome, words_refused, read_failed, refuses, compiles, status_of, out_due, HasReason, Answers, IsExact, IsAccepted, IsFirstRefusal, TakesModule, TakesRefused, WroteResolving}
-use Rattle.llc_top.specs.Reads.{IsRefusedLine}
+use Rattle.llc_top.specs.Exact.{IsExact, Serves, Compiled, Ran}
+use Rattle.llc_top.specs.Main.{defines_main, has_main, is_named_main, fits_main}
+use Rattle.llc_top.specs.Outcome.{Outcome, words_refused, read_failed, refuses, compiles, runs, status_of, out_due, HasReason, Answers, IsAccepted, IsFirstRefusal, TakesModule, TakesRefused, run_steps}
+use Rattle.llc_top.specs.Words.{mode_of}
+use Rattle.llc_top.specs.declared.command.Mode.{Mode}
+use Rattle.llc_top.specs.declared.command.Mode.TheVariants as modes
 use Rattle.llc_top.specs.declared.status.Status.{Status}
 use Rattle.llc_top.specs.declared.status.Status.TheVariants as statuses
-use Rattle.llc_top.proofs.Outcomes.{reads_built}
-use Rattle.llc_top.proofs.Refusals.{excludes}
+use Rattle.llc_top.proofs.Programs.{main_is, reads_program}
+use Rattle.llc_top.proofs.Refusals.{excludes, unique}
 
 -- what was taken of a source that tells its bytes is no more than these
 taken-length : (bytes taken : List ℕ) (left' : Option (List ℕ)) → Consumes (Some bytes) left' taken → length taken ≤ length bytes
@@ -28,65 +38,138 @@ too_long left left' bytes n told takes =
 given : (left left' : Option (List ℕ)) (bytes all : List ℕ) → left ≡ Some bytes → GivesAll left left' all → all ≡ bytes
 given left left' bytes all told gave = GivesAll-told bytes left' all (subst (λ l. GivesAll l left' all) told gave)
 
-refused_apart : (left left' : Option (List ℕ)) (bytes : List ℕ) (m : Module) (refusal : Refusal) → left ≡ Some bytes →
-    TakesRefused left left' refusal → IsAccepted bytes m → ⊥
-refused_apart left left' bytes m (refusals.TooLong taken) told (is, takes) accepted =
-    absurd (omega (arith, too_long left left' bytes taken told takes, accepted.short, is))
-refused_apart left left' bytes m (refusals.NotYet line) told (all, gave, (short, refused)) accepted =
-    excludes bytes m line accepted.reads (subst (λ b. IsRefusedLine b line) (given left left' bytes all told gave) refused)
-refused_apart left left' bytes m refusals.NoMemory told never accepted = never
+-- two modules of one text have the same functions, and so the same main
+same_main : (bytes : List ℕ) (m k : Module) → IsAccepted bytes m → IsAccepted bytes k → has_main m ≡ has_main k
+same_main bytes m k one other = ap (list_any (λ f. is_named_main f && fits_main f)) (unique bytes m k one.reads other.reads)
 
-compiled_apart : (left left' : Option (List ℕ)) (bytes : List ℕ) (m : Module) (refusal : Refusal) → left ≡ Some bytes →
-    TakesModule left left' m → IsFirstRefusal bytes refusal → ⊥
-compiled_apart left left' bytes m refusal told takes refused =
-    by_refusal refusal (subst (λ b. IsAccepted b m) (given left left' bytes takes.bytes told takes.gave) takes.accepted) refused
-  where
-    by_refusal : (r : Refusal) → IsAccepted bytes m → IsFirstRefusal bytes r → ⊥
-    by_refusal (refusals.TooLong taken) accepted long = absurd (omega (arith, accepted.short, long.0))
-    by_refusal (refusals.NotYet line) accepted line_refused = excludes bytes m line accepted.reads line_refused.1
-    by_refusal refusals.NoMemory accepted never = never
+same_defined : (bytes : List ℕ) (m k : Module) → IsAccepted bytes m → IsAccepted bytes k → defines_main m ≡ defines_main k
+same_defined bytes m k one other = ap (list_any is_named_main) (unique bytes m k one.reads other.reads)
+
+or_later : (a b : Bool) → b ≡ true → (a || b) ≡ true
+or_later true b later = refl
+or_later false b later = later
+
+-- a module that has a main defines one
+main_defined : (functions : List Function) → list_any (λ f. is_named_main f && fits_main f) functions ≡ true → list_any is_named_main functions ≡ true
+main_defined [] has = has
+main_defined (f ∷ functions) has =
+    ⊎_elim
+    (λ here. ap (λ t. t || list_any is_named_main functions) (and_parts (is_named_main f) (fits_main f) here).0)
+    (λ later. or_later (is_named_main f) (list_any is_named_main functions) (main_defined functions later))
+    (or_cases (is_named_main f && fits_main f) (list_any (λ g. is_named_main g && fits_main g) functions) has)
+
+-- to run a module it has a main
+serves_run : (mode : Mode) (m : Module) → mode ≡ modes.Run → Serves mode m → has_main m ≡ true
+serves_run modes.Compile m is serves = absurd (cc)
+serves_run modes.Run m is serves = serves
+
+-- an accepted text that serves a mode has no first refusal in it
+accepted_apart : (mode : Mode) (bytes : List ℕ) (m : Module) (refusal : Refusal) → IsAccepted bytes m → Serves mode m →
+    IsFirstRefusal mode bytes refusal → ⊥
+accepted_apart mode bytes m (refusals.TooLong taken) accepted serves long = absurd (omega (arith, accepted.short, long.0))
+accepted_apart mode bytes m (refusals.NotYet line) accepted serves refused = excludes bytes m line accepted.reads refused.1
+accepted_apart mode bytes m refusals.NoMain accepted serves (other, is, read, none) =
+    both_ways (defines_main m) (same_defined bytes m other accepted read ∙ none) (main_defined m.functions (serves_run mode m is serves))
+accepted_apart mode bytes m refusals.BadMain accepted serves (other, is, read, defined, none) =
+    both_ways (has_main m) (same_main bytes m other accepted read ∙ none) (serves_run mode m is serves)
+accepted_apart mode bytes m refusals.NoMemory accepted serves never = never
+
+-- what a source that tells its bytes gave and is refused, its text is refused with
+refused_first : (mode : Mode) (left left' : Option (List ℕ)) (bytes : List ℕ) (refusal : Refusal) → left ≡ Some bytes →
+    TakesRefused mode left left' refusal → IsFirstRefusal mode bytes refusal
+refused_first mode left left' bytes (refusals.TooLong taken) told (is, takes) = (omega (arith, too_long left left' bytes taken told takes, is), is)
+refused_first mode left left' bytes (refusals.NotYet line) told (all, gave, first) =
+    subst (λ b. IsFirstRefusal mode b (refusals.NotYet line)) (given left left' bytes all told gave) first
+refused_first mode left left' bytes refusals.NoMain told (all, gave, first) =
+    subst (λ b. IsFirstRefusal mode b refusals.NoMain) (given left left' bytes all told gave) first
+refused_first mode left left' bytes refusals.BadMain told (all, gave, first) =
+    subst (λ b. IsFirstRefusal mode b refusals.BadMain) (given left left' bytes all told gave) first
+refused_first mode left left' bytes refusals.NoMemory told never = never
+
+taken_accepted : (left left' : Option (List ℕ)) (bytes : List ℕ) (m : Module) → left ≡ Some bytes → TakesModule left left' m → IsAccepted bytes m
+taken_accepted left left' bytes m told takes = subst (λ b. IsAccepted b m) (given left left' bytes takes.bytes told takes.gave) takes.accepted
+
+one_mode : (a b : Mode) (read : Option Mode) → read ≡ Some a → read ≡ Some b → a ≡ b
+one_mode a b read first second = cc
 
 module _ (words : List (List ℕ)) (left left' out out' err err' : Option (List ℕ)) where
-  never_refused : (bytes : List ℕ) (m : Module) (outcome : Outcome) → left ≡ Some bytes → IsAccepted bytes m →
-      HasReason words left left' outcome → status_of outcome ≡ statuses.Refused → ⊥
-  never_refused bytes m words_refused told accepted reason is = cc
-  never_refused bytes m read_failed told accepted reason is = cc
-  never_refused bytes m (refuses refusal) told accepted reason is = refused_apart left left' bytes m refusal told reason.1 accepted
-  never_refused bytes m (compiles other) told accepted reason is = cc
+  never_refused : (mode : Mode) (bytes : List ℕ) (m : Module) (outcome : Outcome) → mode_of words ≡ Some mode → left ≡ Some bytes →
+      IsAccepted bytes m → Serves mode m → HasReason words left left' outcome → status_of outcome ≡ statuses.Refused → ⊥
+  never_refused mode bytes m words_refused asked told accepted serves reason is = cc
+  never_refused mode bytes m read_failed asked told accepted serves reason is = cc
+  never_refused mode bytes m (refuses refusal) asked told accepted serves (other, is_mode, takes) is =
+      accepted_apart mode bytes m refusal accepted serves
+      (subst (λ a. IsFirstRefusal a bytes refusal) (one_mode other mode (mode_of words) is_mode asked) (refused_first other left left' bytes refusal told takes))
+  never_refused mode bytes m (compiles other) asked told accepted serves reason is = cc
+  never_refused mode bytes m (runs other) asked told accepted serves reason is = cc
 
-  never_compiled : (bytes : List ℕ) (refusal : Refusal) (outcome : Outcome) → left ≡ Some bytes → IsFirstRefusal bytes refusal →
-      HasReason words left left' outcome → status_of outcome ≡ statuses.Done → ⊥
-  never_compiled bytes refusal words_refused told refused reason is = cc
-  never_compiled bytes refusal read_failed told refused reason is = cc
-  never_compiled bytes refusal (refuses other) told refused reason is = cc
-  never_compiled bytes refusal (compiles m) told refused reason is = compiled_apart left left' bytes m refusal told reason.1 refused
+  never_done : (mode : Mode) (bytes : List ℕ) (refusal : Refusal) (outcome : Outcome) → mode_of words ≡ Some mode → left ≡ Some bytes →
+      IsFirstRefusal mode bytes refusal → HasReason words left left' outcome → status_of outcome ≡ statuses.Done → ⊥
+  never_done mode bytes refusal words_refused asked told refused reason is = cc
+  never_done mode bytes refusal read_failed asked told refused reason is = cc
+  never_done mode bytes refusal (refuses other) asked told refused reason is = cc
+  never_done mode bytes refusal (compiles m) asked told refused reason is =
+      accepted_apart mode bytes m refusal (taken_accepted left left' bytes m told reason.1)
+      (subst (λ a. Serves a m) (one_mode modes.Compile mode (mode_of words) reason.0 asked) tt) refused
+  never_done mode bytes refusal (runs m) asked told refused reason is =
+      accepted_apart mode bytes m refusal (taken_accepted left left' bytes m told reason.1)
+      (subst (λ a. Serves a m) (one_mode modes.Run mode (mode_of words) reason.0 asked) reason.2) refused
 
   -- an answer is exact
-  pub answer_exact : (status : Status) → Answers (HasReason words left left') status out out' err err' → IsExact left status
+  pub answer_exact : (status : Status) → Answers (HasReason words left left') status out out' err err' → IsExact words left status
   answer_exact status answer = record {
-    accepted = λ bytes m told accepted is.
+    accepted = λ mode bytes m asked told accepted serves is.
         let at = subst (λ s. Answers (HasReason words left left') s out out' err err') is answer in
-        never_refused bytes m at.0 told accepted at.1 at.2;
-    refusable = λ bytes refusal told refused is.
+        never_refused mode bytes m at.0 asked told accepted serves at.1 at.2;
+    refusable = λ mode bytes refusal asked told refused is.
         let at = subst (λ s. Answers (HasReason words left left') s out out' err err') is answer in
-        never_compiled bytes refusal at.0 told refused at.1 at.2;
+        never_done mode bytes refusal at.0 asked told refused at.1 at.2;
   }
 
-  wrote : (outcome : Outcome) → HasReason words left left' outcome → status_of outcome ≡ statuses.Done → Appends out out' (out_due outcome) →
-      WroteResolving left left' out out'
-  wrote words_refused reason is results = absurd (cc)
-  wrote read_failed reason is results = absurd (cc)
-  wrote (refuses refusal) reason is results = absurd (cc)
-  wrote (compiles m) reason is results = record {
-    compiled = m;
-    takes = reason.1;
-    wrote = results;
-    resolves = text_resolves m (reads_built reason.1.bytes m reason.1.accepted.reads);
-  }
+  compiled_by : (outcome : Outcome) → mode_of words ≡ Some modes.Compile → HasReason words left left' outcome →
+      status_of outcome ≡ statuses.Done → Appends out out' (out_due outcome) → Compiled left left' out out'
+  compiled_by words_refused asked reason is results = absurd (cc)
+  compiled_by read_failed asked reason is results = absurd (cc)
+  compiled_by (refuses refusal) asked reason is results = absurd (cc)
+  compiled_by (compiles m) asked reason is results =
+      let program : IsProgram m = reads_program reason.1.bytes m reason.1.accepted.reads in
+      record {
+        compiled = m;
+        takes = reason.1;
+        wrote = results;
+        resolves = text_resolves m program.built;
+        allowed = λ has. let main = main_is m has in program_allowed m main.0 program main.1;
+      }
+  compiled_by (runs m) asked reason is results =
+      let same : modes.Run ≡ modes.Compile = one_mode modes.Run modes.Compile (mode_of words) reason.0 asked in absurd (cc)
 
-  -- what was written resolves
-  pub answer_resolves : (status : Status) → Answers (HasReason words left left') status out out' err err' → status ≡ statuses.Done →
-      WroteResolving left left' out out'
-  answer_resolves status answer is =
+  ran_by : (outcome : Outcome) → mode_of words ≡ Some modes.Run → HasReason words left left' outcome →
+      status_of outcome ≡ statuses.Done → Appends out out' (out_due outcome) → Ran left left' out out'
+  ran_by words_refused asked reason is results = absurd (cc)
+  ran_by read_failed asked reason is results = absurd (cc)
+  ran_by (refuses refusal) asked reason is results = absurd (cc)
+  ran_by (compiles m) asked reason is results =
+      let same : modes.Compile ≡ modes.Run = one_mode modes.Compile modes.Run (mode_of words) reason.0 asked in absurd (cc)
+  ran_by (runs m) asked reason is results =
+      let main = main_is m reason.2 in
+      record {
+        compiled = m;
+        takes = reason.1;
+        has_a_main = reason.2;
+        wrote = results;
+        allowed = program_shows m main.0 (reads_program reason.1.bytes m reason.1.accepted.reads) main.1 [] run_steps;
+      }
+
+  -- what was written resolves, and its image shows what the module allows
+  pub answer_compiled : (status : Status) → Answers (HasReason words left left') status out out' err err' → status ≡ statuses.Done →
+      mode_of words ≡ Some modes.Compile → Compiled left left' out out'
+  answer_compiled status answer is asked =
       let at = subst (λ s. Answers (HasReason words left left') s out out' err err') is answer in
-      wrote at.0 at.1 at.2 at.3.results
+      compiled_by at.0 asked at.1 at.2 at.3.results
+
+  -- what was shown is what the module allows
+  pub answer_ran : (status : Status) → Answers (HasReason words left left') status out out' err err' → status ≡ statuses.Done →
+      mode_of words ≡ Some modes.Run → Ran left left' out out'
+  answer_ran status answer is asked =
+      let at = subst (λ s. Answers (HasReason words left left') s out out' err err') is answer in
+      ran_by at.0 asked at.1 at.2 at.3.results

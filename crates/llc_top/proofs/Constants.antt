@@ -15,7 +15,7 @@ use Rattle.std.specs.Result.{MatchResult, result_ok}
 use Rattle.std.proofs.lemmas.Bool.Decides.{nat_tests}
 use lib.Signed.{mag}
 use Rattle.llc_top.specs.Reading.{after, is_small, constant_of}
-use Rattle.llc_top.proofs.Tests.{first_of_both, second_of_both}
+use Rattle.llc_top.proofs.TestLemmas.{first_of_both, second_of_both}
 use Rattle.llc_top.proofs.Words.{bytes_same}
 
 small_fits : (z : ℤ) → is_small z ≡ true → FitsSigned w16 z

@@ -16,7 +16,7 @@ use Rattle.llc_top.specs.Views.{has_feed}
 use Rattle.llc_top.proofs.Constants.{small_mag_64}
 use Rattle.llc_top.proofs.Returns.{is_in_range}
 use Rattle.llc_top.proofs.ParamTexts.{AreNames, separated}
-use Rattle.llc_top.proofs.Tests.{first_of_both, neither, not_second, second_of_both}
+use Rattle.llc_top.proofs.TestLemmas.{first_of_both, neither, not_second, second_of_both}
 use Rattle.llc_top.proofs.Words.{all_bytes}
 
 abbrev pub AreLines : List (List ℕ) → Type 0

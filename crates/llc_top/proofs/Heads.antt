@@ -11,7 +11,7 @@ use Rattle.llc_top.specs.Definition.{Definition, IsDefinition, constant, define_
 use Rattle.llc_top.specs.Reading.{◌>>=◌, Opened, after, define_of, is_taken, name_at, params_at, type_at}
 use Rattle.llc_top.specs.Tree.{param_of}
 use Rattle.llc_top.proofs.ParamTexts.{params_again, params_sound}
-use Rattle.llc_top.proofs.Tests.{bind_some, guard_some, not_first, not_second, not_both_ways}
+use Rattle.llc_top.proofs.TestLemmas.{bind_some, guard_some, not_first, not_second, not_both_ways}
 use Rattle.llc_top.proofs.Words.{after_again, after_sound, type_again, type_sound, name_again, name_sound}
 
 -- what a line of `define` says of the definition

@@ -1,5 +1,6 @@
 pub mod Apart
 pub mod Constants
+pub mod Executing
 pub mod Feeds
 pub mod Heads
 pub mod LineTexts
@@ -7,10 +8,11 @@ pub mod Names
 pub mod Outcomes
 pub mod ParamTexts
 pub mod Params
+pub mod Programs
 pub mod Refusals
 pub mod Returns
 pub mod Sources
 pub mod Stages
 pub mod Stuck
-pub mod Tests
+pub mod TestLemmas
 pub mod Words

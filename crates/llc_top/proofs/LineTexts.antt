@@ -8,7 +8,7 @@ use Rattle.rv_isa.specs.Lines.{ended, in_first, text_of_lines}
 use Rattle.llc_top.specs.Reads.{first_lines, lines_of}
 use Rattle.llc_top.specs.Views.{has_feed}
 use Rattle.llc_top.proofs.Feeds.{AreLines, one_line}
-use Rattle.llc_top.proofs.Tests.{not_first, not_second}
+use Rattle.llc_top.proofs.TestLemmas.{not_first, not_second}
 
 abbrev pub joined : List (List ℕ) → List ℕ
 joined lines = flat_map (λ line. line) lines

@@ -11,7 +11,7 @@ use Rattle.ir_syntax.specs.declared.function.Param.{Param}
 use Rattle.llc_top.specs.Definition.{is_name, param_text, type_text}
 use Rattle.llc_top.specs.Reading.{◌>>=◌, after, after_type, has_param, if_more, more_params, name_at, name_len, param_at, params_at}
 use Rattle.llc_top.specs.Tree.{param_of}
-use Rattle.llc_top.proofs.Tests.{bind_some, guard_some, some, some_is, neither}
+use Rattle.llc_top.proofs.TestLemmas.{bind_some, guard_some, some, some_is, neither}
 use Rattle.llc_top.proofs.Words.{IsSized, after_again, after_sound, after_type_again, after_type_sound, name_again, name_sound}
 
 abbrev pub AreNames : List (List ℕ) → Type 0

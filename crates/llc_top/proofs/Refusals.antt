@@ -1,5 +1,5 @@
 -- Which line is refused, by what is read so far.
-use Rattle.std.proofs.Common.{◌≡◌, ℕ, suc, ◌+◌, ◌≤◌, true, false, List, [], ◌∷◌, ◌++◌, length, take, drop, Option, Some, None, Result, Ok, Err, refl, sym, ap, subst, ◌∙◌, append_assoc, arith, inl, inr}
+use Rattle.std.proofs.Common.{◌≡◌, ℕ, suc, ◌+◌, ◌<◌, ◌≤◌, true, false, List, [], ◌∷◌, ◌++◌, length, take, drop, Option, Some, None, Result, Ok, Err, refl, sym, ap, subst, ◌∙◌, append_assoc, arith, inl, inr}
 use Rattle.std.specs.List.{flat_map}
 use Rattle.std.proofs.lemmas.Bool.{cases_lt}
 use Rattle.std.proofs.lemmas.List.{append-nil, length-append, take-append-drop, take-append-le, take_all}
@@ -20,7 +20,7 @@ use Rattle.llc_top.proofs.LineTexts.{count_lines, first_and_rest, first_lines_ar
 use Rattle.llc_top.proofs.ParamTexts.{IsDistinct-nil}
 use Rattle.llc_top.proofs.Sources.{strip}
 use Rattle.llc_top.proofs.Stages.{Continued, Stands, StandsAt, continues, stands_on}
-use Rattle.llc_top.proofs.Tests.{not_both_ways}
+use Rattle.llc_top.proofs.TestLemmas.{not_both_ways}
 use Rattle.llc_top.proofs.Stuck.{some_line, stuck, unfinished}
 
 -- ---- lines that begin a text
@@ -252,6 +252,20 @@ ended_as text rest line p o r h none ends is =
     by_module : (o : Option Module) → EndsAs p o → IfOk (ok_or o (NotYet line)) (λ m. Reads text m) × IfErr (ok_or o (NotYet line)) (λ e. IsRefusal text e)
     by_module None ends = (tt, refused_end text line p at_end ends)
     by_module (Some m) ends = (read_whole text line p m at_end ends.0 ends.1, tt)
+
+not_before : (bytes : List ℕ) (n k : ℕ) → IsRefusedLine bytes n → IsRefusedLine bytes k → n < k → ⊥
+not_before bytes n k r s lt = r.bad (omega (arith, s.within)) (s.before n lt)
+
+-- one line of a text is refused
+pub one_refused : (bytes : List ℕ) (n k : ℕ) → IsRefusedLine bytes n → IsRefusedLine bytes k → n ≡ k
+one_refused bytes n k r s =
+    elim (cases_lt n k) [
+      | inl lt ↦ absurd (not_before bytes n k r s lt)
+      | inr le ↦ elim (cases_lt k n) [
+        | inl lt ↦ absurd (not_before bytes k n s r lt)
+        | inr ge ↦ omega arith
+      ]
+    ]
 
 -- what is read is the one module of the text
 pub only_module : (bytes : List ℕ) (r : Result Module ReadError) → IfOk r (λ m. Reads bytes m) → IfErr r (λ e. IsRefusal bytes e) → (m : Module) → Reads bytes m → IsOnly m r

@@ -17,7 +17,7 @@ use Rattle.llc_top.specs.Tree.{literal_of, operand_of, param_of}
 use Rattle.llc_top.proofs.Constants.{constant_again, constant_sound, no_percent}
 use Rattle.llc_top.proofs.Heads.{head_of}
 use Rattle.llc_top.proofs.ParamTexts.{is_new_param}
-use Rattle.llc_top.proofs.Tests.{bind_some, some, some_is, second_of_either}
+use Rattle.llc_top.proofs.TestLemmas.{bind_some, some, some_is, second_of_either}
 use Rattle.llc_top.proofs.Words.{bytes_same, after_again, after_sound, after_type_again, after_type_sound}
 
 -- ---- constants in range

@@ -8,7 +8,7 @@ use Rattle.llc_top.specs.Reading.{Opened, completed, define_of, return_of}
 use Rattle.llc_top.specs.Tree.{function_of, functions_of, operand_of}
 use Rattle.llc_top.proofs.Heads.{head_of, define_again}
 use Rattle.llc_top.proofs.Returns.{return_again}
-use Rattle.llc_top.proofs.Tests.{some_is}
+use Rattle.llc_top.proofs.TestLemmas.{some_is}
 
 abbrev pub AllDefined : List Definition → Type 0
 AllDefined ds = AllByRecursion IsDefinition ds

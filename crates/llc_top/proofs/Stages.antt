@@ -18,7 +18,7 @@ use Rattle.llc_top.specs.Tree.{function_of, functions_of}
 use Rattle.llc_top.proofs.Heads.{head_of, define_sound}
 use Rattle.llc_top.proofs.Returns.{return_sound, returning}
 use Rattle.llc_top.proofs.Sources.{AllDefined, functions_push, length_functions, length_source, names_of}
-use Rattle.llc_top.proofs.Tests.{bind_some, guard_some, not_first, not_second, some, some_is}
+use Rattle.llc_top.proofs.TestLemmas.{bind_some, guard_some, not_first, not_second, some, some_is}
 
 -- the line at which the function after these begins
 abbrev pub next_line : List Definition → ℕ

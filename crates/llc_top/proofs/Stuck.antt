@@ -13,7 +13,7 @@ use Rattle.llc_top.proofs.ParamTexts.{new_in_distinct}
 use Rattle.llc_top.proofs.Returns.{return_again}
 use Rattle.llc_top.proofs.Sources.{AllDefined, Stripped, length_functions, names_of, same_head, strip}
 use Rattle.llc_top.proofs.Stages.{IsBegun, Stands, all_front, all_last, next_line, room_again}
-use Rattle.llc_top.proofs.Tests.{neither, none_is_no_some, some}
+use Rattle.llc_top.proofs.TestLemmas.{neither, none_is_no_some, some}
 use Rattle.llc_top.proofs.Words.{bytes_same}
 
 not_nil : {A : Type 0} (xs : List A) (x : A) (ys : List A) → xs ++ x ∷ ys ≡ [] → ⊥

@@ -7,7 +7,7 @@ use Rattle.std.proofs.lemmas.Bool.{eqb-true, eq-eqb}
 use Rattle.std.proofs.lemmas.List.{take_at, drop_at, take-append-drop}
 use Rattle.std.proofs.lemmas.Option.{cond_some}
 use Rattle.std.proofs.lemmas.Slice.Eq.{bytes_eq-Decides}
-use Rattle.llc_top.proofs.Tests.{bind_some, some, some_is, both, first_of_both, second_of_both}
+use Rattle.llc_top.proofs.TestLemmas.{bind_some, some, some_is, both, first_of_both, second_of_both}
 use Rattle.rv_isa.specs.Symbol.{is_digit, is_letter}
 use Rattle.llc_top.specs.Definition.{is_name, is_name_byte, type_text}
 use Rattle.llc_top.specs.Reading.{◌>>=◌, after, after_type, name_at, name_len, or_else, begins_name, type_at, with_bits}

@@ -1,9 +1,18 @@
 -- The words of a command line.
-use Rattle.std.specs.Prelude.{ℕ, Bool, false, List, [], ◌∷◌, bytes_eq, codes}
+use Rattle.std.specs.Prelude.{ℕ, Option, Some, None, List, [], ◌∷◌, bytes_eq, codes, if◌then◌else◌}
+use Rattle.llc_top.specs.declared.command.Mode.{Mode}
+use Rattle.llc_top.specs.declared.command.Mode.TheVariants.{Compile, Run}
 
--- the program's name, and the one mode
-abbrev pub is_compile : List (List ℕ) → Bool
-is_compile [] = false
-is_compile (program ∷ []) = false
-is_compile (program ∷ mode ∷ []) = bytes_eq mode (codes "compile")
-is_compile (program ∷ mode ∷ next ∷ more) = false
+-- the mode of a name
+abbrev pub mode_named : List ℕ → Option Mode
+mode_named word =
+    if bytes_eq word (codes "compile") then Some Compile
+    else if bytes_eq word (codes "run") then Some Run
+    else None
+
+-- the program's name, and a mode
+abbrev pub mode_of : List (List ℕ) → Option Mode
+mode_of [] = None
+mode_of (program ∷ []) = None
+mode_of (program ∷ mode ∷ []) = mode_named mode
+mode_of (program ∷ mode ∷ next ∷ more) = None

@@ -1,13 +1,34 @@
 //! The words of the command line.
 ghost use Rattle.std.specs.Prelude.{◌≡◌, map, string_bytes};
-ghost use Rattle.llc_top.specs.Words.{is_compile};
+ghost use Rattle.llc_top.specs.Words.{mode_of, mode_named};
 
-/// Whether the words are the program's name and the mode `compile`.
-pub fn has_compile(words: &[String]) -> bool
-    ensures { result ≡ is_compile (map (λ word. string_bytes word) words.now) }
+/// What the program is asked to do.
+#[derive(Clone, Copy, Debug, PartialEq, Eq)]
+pub enum Mode {
+    /// To write the assembly of a module.
+    Compile,
+    /// To compile a module and run it on the machine.
+    Run,
+}
+
+/// What the words ask for: the program's name, and a mode.
+pub fn mode_in(words: &[String]) -> Option<Mode>
+    ensures { result ≡ mode_of (map (λ word. string_bytes word) words.now) }
 {
     match words {
-        [_, mode] => mode.as_bytes() == b"compile".as_slice(),
-        _ => false,
+        [_, mode] => named_mode(mode.as_bytes()),
+        _ => None,
+    }
+}
+
+fn named_mode(word: &[u8]) -> Option<Mode>
+    ensures { result ≡ mode_named word.now }
+{
+    if word == b"compile".as_slice() {
+        Some(Mode::Compile)
+    } else if word == b"run".as_slice() {
+        Some(Mode::Run)
+    } else {
+        None
     }
 }

@@ -1,10 +1,14 @@
-//! The whole compiler: it reads a module, and answers with its assembly or a refusal.
+//! The whole compiler: it reads a module, and answers with its assembly, with a run of it, or with a refusal.
 #![tactic(auto)]
 
+mod answer;
 mod command;
 mod compile;
+mod execute;
 mod reader;
 mod run;
+mod serve;
+mod start;
 mod status;
 mod tell;
 #[cfg(test)]

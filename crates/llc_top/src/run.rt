@@ -1,13 +1,15 @@
 //! The top call.
-ghost use Rattle.std.specs.Prelude.{◌≡◌, ◌⊎◌, false, map, string_bytes};
+ghost use Rattle.std.specs.Prelude.{◌≡◌, ◌⊎◌, Some, None, map, string_bytes};
 ghost use Rattle.cg_io.specs.Faults.{Rose};
-ghost use Rattle.llc_top.specs.Outcome.{Answers, HasReason, IsExact, WroteResolving};
-ghost use Rattle.llc_top.specs.Words.{is_compile};
+ghost use Rattle.llc_top.specs.Exact.{IsExact, Compiled, Ran};
+ghost use Rattle.llc_top.specs.Outcome.{Answers, HasReason};
+ghost use Rattle.llc_top.specs.Words.{mode_of};
+ghost use Rattle.llc_top.specs.declared.command.Mode.TheVariants.{Compile, Run};
 
-use crate::command::has_compile;
-use crate::compile::{compile_text, refuse};
+use crate::answer::{answer_line, answer_refusal};
+use crate::command::mode_in;
+use crate::serve::serve_text;
 use crate::status::Status;
-use crate::tell::tell;
 use cg_io::{ReadEnd, Sink, Source, read_all};
 use ir_syntax::Refusal;
 use std::alloc::Global;
@@ -17,8 +19,10 @@ const TEXT_LIMIT: usize = 16_777_216;
 
 /// Runs the program: `words` are those of its command line, the program's name first.
 ///
-/// With `compile` it reads a module from `src`, to its end, and writes its assembly on `out`. A text
-/// that is refused is told on `err`, and leaves `out` without a byte.
+/// With `compile` it reads a module from `src`, to its end, and writes its assembly on `out`. With `run` it
+/// compiles the module, links it, and runs it on the machine for at most 100,000,000 steps: the machine's
+/// output goes to `out`, and a line that tells how it ended to `err`. A text that is refused is told on
+/// `err`, and leaves `out` without a byte.
 pub fn run_llc<S: Source, O: Sink, E: Sink>(
     alloc: Global,
     words: &[String],
@@ -32,22 +36,29 @@ pub fn run_llc<S: Source, O: Sink, E: Sink>(
         result (O.written out.old) (O.written out.new) (E.written err.old) (E.written err.new) }
 
     // Of a source that tells its bytes, an accepted text is never refused, and one with a first
-    // refusal never compiled.
-    ensures exact { IsExact (S.left src.old) result }
+    // refusal never done.
+    ensures exact { IsExact (map (λ word. string_bytes word) words.now) (S.left src.old) result }
 
     // With other words nothing is read, and the answer is `Words` unless that can't be told.
-    ensures words { is_compile (map (λ word. string_bytes word) words.now) ≡ false →
+    ensures words { mode_of (map (λ word. string_bytes word) words.now) ≡ None →
         (result ≡ Status.Words) ⊎ (result ≡ Status.WriteFault) }
-    ensures unread { is_compile (map (λ word. string_bytes word) words.now) ≡ false → src.new ≡ src.old }
+    ensures unread { mode_of (map (λ word. string_bytes word) words.now) ≡ None → src.new ≡ src.old }
 
     // Faults come only from the streams.
     ensures read_fault { result ≡ Status.ReadFault → Rose (S.faults src.old) (S.faults src.new) }
     ensures write_fault { result ≡ Status.WriteFault →
         Rose (O.faults out.old) (O.faults out.new) ⊎ Rose (E.faults err.old) (E.faults err.new) }
 
-    // In the text that was written each symbol of the module stands once, and none is missing.
-    ensures resolves { result ≡ Status.Done → WroteResolving (S.left src.old) (S.left src.new)
-        (O.written out.old) (O.written out.new) }
+    // In the text that was written each symbol of the module stands once and none is missing; and its
+    // linked image, on any input and for any number of steps, shows what the module's meaning allows.
+    ensures compiled { result ≡ Status.Done →
+        mode_of (map (λ word. string_bytes word) words.now) ≡ Some Compile →
+        Compiled (S.left src.old) (S.left src.new) (O.written out.old) (O.written out.new) }
+
+    // What the machine showed is what the module's meaning allows.
+    ensures ran { result ≡ Status.Done →
+        mode_of (map (λ word. string_bytes word) words.now) ≡ Some Run →
+        Ran (S.left src.old) (S.left src.new) (O.written out.old) (O.written out.new) }
 {
     run_command(alloc, words, src, out, err)
 }
@@ -63,26 +74,25 @@ fn run_command<S: Source, O: Sink, E: Sink>(
     ensures answer { Answers
         (HasReason (map (λ word. string_bytes word) words.now) (S.left src.old) (S.left src.new))
         result (O.written out.old) (O.written out.new) (E.written err.old) (E.written err.new) }
-    ensures words { is_compile (map (λ word. string_bytes word) words.now) ≡ false →
+    ensures words { mode_of (map (λ word. string_bytes word) words.now) ≡ None →
         (result ≡ Status.Words) ⊎ (result ≡ Status.WriteFault) }
-    ensures unread { is_compile (map (λ word. string_bytes word) words.now) ≡ false → src.new ≡ src.old }
+    ensures unread { mode_of (map (λ word. string_bytes word) words.now) ≡ None → src.new ≡ src.old }
     ensures read_fault { result ≡ Status.ReadFault → Rose (S.faults src.old) (S.faults src.new) }
     ensures write_fault { result ≡ Status.WriteFault →
         Rose (O.faults out.old) (O.faults out.new) ⊎ Rose (E.faults err.old) (E.faults err.new) }
 {
-    if !has_compile(words) {
-        return tell(err, b"llc: words\n", Status::Words);
-    }
+    let Some(mode) = mode_in(words) else {
+        return answer_line(err, b"llc: words\n", Status::Words);
+    };
     match read_all(alloc, src, TEXT_LIMIT) {
-        Ok(text) => compile_text(alloc, &text, out, err),
-        Err(ReadEnd::TooLong { taken }) => refuse(
-            alloc,
+        Ok(text) => serve_text(alloc, mode, &text, out, err),
+        Err(ReadEnd::TooLong { taken }) => answer_refusal(
             err,
             Refusal::TooLong {
                 taken: taken as u64,
             },
         ),
-        Err(ReadEnd::Fault) => tell(err, b"llc: read fault\n", Status::ReadFault),
+        Err(ReadEnd::Fault) => answer_line(err, b"llc: read fault\n", Status::ReadFault),
         Err(ReadEnd::NoMemory) => Status::NoMemory,
     }
 }

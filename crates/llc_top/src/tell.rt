@@ -1,47 +1,67 @@
 //! Lines on the sink for errors.
-ghost use Rattle.std.specs.Prelude.{◌≡◌, ◌⊎◌, ◌++◌, decimal, IfOk};
+ghost use Rattle.std.specs.Prelude.{◌≡◌, ◌++◌, decimal, OnOk, OnErr};
+ghost use Rattle.std.specs.Io.KnownBytes.{Appends};
 ghost use Rattle.cg_io.specs.Faults.{Rose};
+ghost use Rattle.cg_io.specs.Told.{AppendsPrefix};
 ghost use Rattle.rv_isa.specs.Lines.{ended};
-ghost use Rattle.llc_top.specs.Outcome.{Told, refusal_text};
+ghost use Rattle.llc_top.specs.Outcome.{refusal_text};
+ghost use Rattle.llc_top.specs.Stops.{stop_text, trap_text};
 
-use crate::status::Status;
-use cg_io::{Sink, write_all};
+use cg_io::{Sink, WriteFault, write_all};
 use ir_syntax::Refusal;
 use itoa::Buffer;
-use std::alloc::{AllocError, Global};
+use rv_mach::{Stop, TrapKind};
 
-/// Tells a line, and answers with the status that is due, or that the write failed.
-pub fn tell<E: Sink>(err: &mut E, line: &[u8], due: Status) -> Status
-    ensures told { Told result due line.now (E.written err.old) (E.written err.new) }
-    ensures fault { (result ≡ due) ⊎ Rose (E.faults err.old) (E.faults err.new) }
-{
-    match write_all(err, line) {
-        Ok(()) => due,
-        Err(_) => Status::WriteFault,
-    }
-}
-
-/// The line of a refusal, with its number, its name and its fields.
-pub fn refusal_line(alloc: Global, refusal: Refusal) -> Result<Vec<u8>, AllocError>
-    ensures { IfOk result (λ line. line.items ≡ ended (refusal_text refusal)) }
+/// Tells a refusal: its number, its name and its fields.
+pub fn tell_refusal<E: Sink>(err: &mut E, refusal: Refusal) -> Result<(), WriteFault>
+    ensures all { OnOk result (Appends (E.written err.old) (E.written err.new) (ended (refusal_text refusal))) }
+    ensures prefix { AppendsPrefix (E.written err.old) (E.written err.new) (ended (refusal_text refusal)) }
+    ensures fault { OnErr result (Rose (E.faults err.old) (E.faults err.new)) }
 {
     match refusal {
-        Refusal::TooLong { taken } => numbered_line(alloc, b"llc: refused 1 TooLong ", taken),
-        Refusal::NotYet { line } => numbered_line(
-            alloc,
-            b"llc: refused 18 NotYet ",
-            u64::from(line),
-        ),
-        Refusal::NoMemory => Vec::from_slice(alloc, b"\n"),
+        Refusal::TooLong { taken } => tell_number(err, b"llc: refused 1 TooLong ", taken),
+        Refusal::NoMain => write_all(err, b"llc: refused 14 NoMain\n"),
+        Refusal::BadMain => write_all(err, b"llc: refused 15 BadMain\n"),
+        Refusal::NotYet { line } => tell_number(err, b"llc: refused 18 NotYet ", u64::from(line)),
+        Refusal::NoMemory => write_all(err, b"\n"),
     }
 }
 
-fn numbered_line(alloc: Global, text: &[u8], number: u64) -> Result<Vec<u8>, AllocError>
-    ensures { IfOk result (λ line. line.items ≡ ended (text.now ++ decimal number)) }
+/// Tells how a run on the machine ended.
+pub fn tell_stop<E: Sink>(err: &mut E, stop: Stop) -> Result<(), WriteFault>
+    ensures all { OnOk result (Appends (E.written err.old) (E.written err.new) (ended (stop_text stop))) }
+    ensures prefix { AppendsPrefix (E.written err.old) (E.written err.new) (ended (stop_text stop)) }
+    ensures fault { OnErr result (Rose (E.faults err.old) (E.faults err.new)) }
+{
+    match stop {
+        Stop::Exited(code) => tell_number(err, b"exit ", u64::from(code)),
+        Stop::Trapped(kind) => write_all(err, trap_line(kind)),
+        Stop::StackOut => write_all(err, b"stack\n"),
+        Stop::Running => write_all(err, b"running\n"),
+    }
+}
+
+fn trap_line(kind: TrapKind) -> &'static [u8]
+    ensures { result.now ≡ ended (trap_text kind) }
+{
+    match kind {
+        TrapKind::Illegal => b"trap illegal\n",
+        TrapKind::Misaligned => b"trap misaligned\n",
+        TrapKind::Unmapped => b"trap unmapped\n",
+        TrapKind::Ecall => b"trap ecall\n",
+        TrapKind::Break => b"trap break\n",
+    }
+}
+
+/// Tells a line that ends in a number. It takes no memory.
+fn tell_number<E: Sink>(err: &mut E, text: &[u8], number: u64) -> Result<(), WriteFault>
+    ensures all { OnOk result (Appends (E.written err.old) (E.written err.new) (ended (text.now ++ decimal number))) }
+    ensures prefix { AppendsPrefix (E.written err.old) (E.written err.new) (ended (text.now ++ decimal number)) }
+    ensures fault { OnErr result (Rose (E.faults err.old) (E.faults err.new)) }
 {
     let mut digits = Buffer::new();
-    let mut line = Vec::from_slice(alloc, text)?;
-    line.extend_from_slice(digits.format(number).as_bytes())?;
-    line.extend_from_slice(b"\n")?;
-    Ok(line)
+    write_all(err, text)?;
+    write_all(err, digits.format(number).as_bytes())?;
+    write_all(err, b"\n")?;
+    Ok(())
 }

@@ -106,18 +106,61 @@ fn texts_outside_the_built_set_are_refused_by_line(rt: HostRuntime) -> Result<()
 }
 
 #[test]
-fn other_words_are_refused(rt: HostRuntime) -> Result<(), Fail> {
-    for words in [
-        ["llc", "compile", "x"].as_slice(),
-        ["llc", "Compile"].as_slice(),
-        ["llc"].as_slice(),
-        [].as_slice(),
+fn a_main_is_run_to_its_exit(rt: HostRuntime) -> Result<(), Fail> {
+    for (text, status, err) in [
+        (
+            "define i32 @main() {\n  ret i32 -7\n}\n",
+            Status::Done,
+            "exit 4294967289\n",
+        ),
+        (
+            "define i32 @main() {\n  ret i32 0\n}\n",
+            Status::Done,
+            "exit 0\n",
+        ),
+        (
+            "define i64 @f(i64 %x) {\n  ret i64 %x\n}\ndefine i32 @main() {\n  ret i32 2047\n}\n",
+            Status::Done,
+            "exit 2047\n",
+        ),
+        (ARGUMENT, Status::Refused, "llc: refused 14 NoMain\n"),
+        (
+            "define i64 @main() {\n  ret i64 0\n}\n",
+            Status::Refused,
+            "llc: refused 15 BadMain\n",
+        ),
+        (
+            "define i32 @main(i32 %x) {\n  ret i32 0\n}\n",
+            Status::Refused,
+            "llc: refused 15 BadMain\n",
+        ),
+        (
+            "define i64 @main() {\n  ret i64 2048\n}\n",
+            Status::Refused,
+            "llc: refused 18 NotYet 2\n",
+        ),
     ] {
-        let told = run_words(&rt, words, ARGUMENT.as_bytes())?;
-        assert_eq!(rt; told.status, Status::Words);
-        assert_eq!(rt; told.err.as_slice(), b"llc: words\n".as_slice());
+        let told = run_words(&rt, ["llc", "run"].as_slice(), text.as_bytes())?;
+        assert_eq!(rt; told.status, status, "{text}");
+        assert_eq!(rt; told.err.as_slice(), err.as_bytes(), "{text}");
+        assert_eq!(rt; told.out.len(), 0, "{text}");
     }
     Ok(())
+}
+
+#[test]
+fn other_words_are_refused(rt: HostRuntime) -> Result<(), Fail> {
+    assert!(rt; are_refused(&rt, ["llc", "compile", "x"].as_slice())?);
+    assert!(rt; are_refused(&rt, ["llc", "Compile"].as_slice())?);
+    assert!(rt; are_refused(&rt, ["llc"].as_slice())?);
+    assert!(rt; are_refused(&rt, [].as_slice())?);
+    Ok(())
+}
+
+/// Whether the words are told to be none that the program knows.
+fn are_refused(rt: &HostRuntime, words: &[&str]) -> Result<bool, Fail> {
+    let told = run_words(rt, words, ARGUMENT.as_bytes())?;
+    Ok(told.status == Status::Words && told.err.as_slice() == b"llc: words\n".as_slice())
 }
 
 #[test]

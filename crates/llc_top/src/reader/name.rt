@@ -5,18 +5,21 @@ ghost use Rattle.rv_isa.specs.Symbol.{is_digit, is_letter};
 ghost use Rattle.llc_top.specs.Definition.{is_name_byte};
 ghost use Rattle.llc_top.specs.Reading.{name_at, name_len, begins_name};
 
+/// Whether a byte may stand in a name.
 fn is_name_byte(byte: u8) -> bool
     ensures { result ≡ is_name_byte byte }
 {
     matches!(byte, b'A'..=b'Z' | b'a'..=b'z' | b'0'..=b'9' | b'_')
 }
 
+/// Whether a name begins here.
 fn begins_name(bytes: &[u8]) -> bool
     ensures { result ≡ begins_name bytes.now }
 {
     matches!(bytes, [b'A'..=b'Z' | b'a'..=b'z' | b'_', ..])
 }
 
+/// How many bytes of a name stand at the front.
 fn name_len(bytes: &[u8]) -> usize
     ensures value { result ≡ name_len bytes.now }
     ensures within { result ≤ length bytes.now }

@@ -13,6 +13,7 @@ use std::alloc::{AllocError, Global};
 /// The most parameters of a function: as many as there are argument registers.
 const MOST_PARAMS: usize = 8;
 
+/// Whether this is the name of these bytes.
 fn is_called(name: &Name, bytes: &[u8]) -> bool
     ensures { result ≡ is_called bytes.now name.now }
 {
@@ -44,6 +45,7 @@ fn param_at(bytes: &[u8], bits: u8) -> Option<(&[u8], &[u8])>
     name_at(rest)
 }
 
+/// The parameter of this name and type; it takes the name's bytes.
 fn make_param(alloc: Global, line: u32, bits: u8, name: &[u8]) -> Result<Param, AllocError>
     ensures { IfOk result (λ p. p ≡ param_of line bits name.now) }
 {
@@ -55,6 +57,8 @@ fn make_param(alloc: Global, line: u32, bits: u8, name: &[u8]) -> Result<Param, 
     })
 }
 
+/// The parameters after the first, each after a comma and of a new name, as far as there is room,
+/// and what stands after them.
 fn more_params(
     alloc: Global,
     line: u32,

@@ -10,6 +10,7 @@ use indexmap::IndexSet;
 use ir_syntax::Module;
 use std::alloc::Global;
 
+/// Reads a line after the other; see [`read_module`].
 fn read(alloc: Global, text: &[u8]) -> Result<Module, ReadError>
     requires { length text.now ≤ 16777216 }
     ensures read { IfOk result (λ m. Reads text.now m) }
@@ -67,8 +68,9 @@ pub(crate) fn read_module(alloc: Global, text: &[u8]) -> Result<Module, ReadErro
     read(alloc, text)
 }
 
-/// No text is both read and refused, and a text has one module.
+/// No text is both read and refused, and a text has one module or one line that is refused.
 pub(crate) fn one_answer()
     ensures excludes { (bytes : List ℕ) (m : Module) (n : ℕ) → Reads bytes m → IsRefusedLine bytes n → ⊥ }
     ensures unique { (bytes : List ℕ) (m k : Module) → Reads bytes m → Reads bytes k → m.functions ≡ k.functions }
+    ensures line { (bytes : List ℕ) (n k : ℕ) → IsRefusedLine bytes n → IsRefusedLine bytes k → n ≡ k }
 {}

@@ -34,6 +34,7 @@ fn constant_of(text: &[u8]) -> Option<i16>
     }
 }
 
+/// A number as a literal: its sign and its magnitude.
 fn literal_of(number: i16) -> Literal
     ensures { result ≡ literal_of number }
 {

@@ -1,6 +1,7 @@
-use Rattle.std.proofs.Common.{String, Global, map, sym, string_bytes}
+use Rattle.std.proofs.Common.{◌≡◌, ◌∙◌, ℕ, String, Global, map, sym, string_bytes, Some, None, subst}
 use Rattle.ir_syntax.specs.declared.refusal.Refusal.TheVariants as refusals
 use Rattle.llc_top.specs.Outcome.{HasReason}
+use Rattle.llc_top.specs.Partial.{ToldRefusal}
 use Rattle.llc_top.proofs.Outcomes.{fault_answer, refusal_answer}
 use Rattle.llc_top.proofs.run.run_command.Goals as goal
 
@@ -8,11 +9,15 @@ pub returns-in-Err-TooLong-clause-answer : goal.returns-in-Err-TooLong-clause-an
 returns-in-Err-TooLong-clause-answer g c =
     refusal_answer
     (HasReason (map (λ (word : String Global). string_bytes word) c.args.words.now) (g.S.Source.left c.args.src.now) (g.S.Source.left c.read_all.new.src))
-    _ _ _ (refusals.TooLong c.in-Err-TooLong.taken) c.refuse.result
-    (sym c.if-not-has_compile.ensures, rw c.in-Err-TooLong.field-0-is at c.in-Err-TooLong.ensures.early) c.refuse.ensures.told
+    _ _ _ (refusals.TooLong c.in-Err-TooLong.taken) c.answer_refusal.result
+    (c.in-Some.mode, sym c.in-Some.ensures, rw c.in-Err-TooLong.field-0-is at c.in-Err-TooLong.ensures.early)
+    (subst
+    (λ (taken : ℕ). ToldRefusal (refusals.TooLong taken) c.answer_refusal.result (g.E.Sink.written c.args.err.now) (g.E.Sink.written c.answer_refusal.new.err))
+    c.in-Err-TooLong.taken-is c.answer_refusal.ensures.told)
 
 pub returns-in-Err-Fault-clause-answer : goal.returns-in-Err-Fault-clause-answer
 returns-in-Err-Fault-clause-answer g c =
     fault_answer
     (HasReason (map (λ (word : String Global). string_bytes word) c.args.words.now) (g.S.Source.left c.args.src.now) (g.S.Source.left c.read_all.new.src))
-    _ _ _ c.tell-in-Err-Fault.result (sym c.if-not-has_compile.ensures) c.tell-in-Err-Fault.ensures.told
+    _ _ _ c.answer_line-in-Err-Fault.result
+    (λ none. let asked : Some c.in-Some.mode ≡ None = c.in-Some.ensures ∙ none in cc) c.answer_line-in-Err-Fault.ensures.told

@@ -1,5 +1,5 @@
 use Rattle.std.proofs.Common.{String, Global, map, string_bytes}
-use Rattle.llc_top.proofs.Apart.{answer_exact, answer_resolves}
+use Rattle.llc_top.proofs.Apart.{answer_compiled, answer_exact, answer_ran}
 use Rattle.llc_top.proofs.run.run_llc.Goals as goal
 
 pub returns-clause-exact : goal.returns-clause-exact
@@ -8,8 +8,14 @@ returns-clause-exact g c =
     (g.S.Source.left c.run_command.new.src) (g.O.Sink.written c.args.out.now) (g.O.Sink.written c.run_command.new.out)
     (g.E.Sink.written c.args.err.now) (g.E.Sink.written c.run_command.new.err) c.run_command.result c.run_command.ensures.answer
 
-pub returns-clause-resolves : goal.returns-clause-resolves
-returns-clause-resolves g c =
-    answer_resolves (map (λ (word : String Global). string_bytes word) c.args.words.now) (g.S.Source.left c.args.src.now)
+pub returns-clause-compiled : goal.returns-clause-compiled
+returns-clause-compiled g c =
+    answer_compiled (map (λ (word : String Global). string_bytes word) c.args.words.now) (g.S.Source.left c.args.src.now)
+    (g.S.Source.left c.run_command.new.src) (g.O.Sink.written c.args.out.now) (g.O.Sink.written c.run_command.new.out)
+    (g.E.Sink.written c.args.err.now) (g.E.Sink.written c.run_command.new.err) c.run_command.result c.run_command.ensures.answer
+
+pub returns-clause-ran : goal.returns-clause-ran
+returns-clause-ran g c =
+    answer_ran (map (λ (word : String Global). string_bytes word) c.args.words.now) (g.S.Source.left c.args.src.now)
     (g.S.Source.left c.run_command.new.src) (g.O.Sink.written c.args.out.now) (g.O.Sink.written c.run_command.new.out)
     (g.E.Sink.written c.args.err.now) (g.E.Sink.written c.run_command.new.err) c.run_command.result c.run_command.ensures.answer

@@ -1,4 +1,4 @@
-use Rattle.llc_top.proofs.Refusals.{excludes, unique}
+use Rattle.llc_top.proofs.Refusals.{excludes, one_refused, unique}
 use Rattle.llc_top.proofs.reader.read.one_answer.Goals as goal
 
 pub returns-clause-excludes : goal.returns-clause-excludes
@@ -6,3 +6,6 @@ returns-clause-excludes c = excludes
 
 pub returns-clause-unique : goal.returns-clause-unique
 returns-clause-unique c = unique
+
+pub returns-clause-line : goal.returns-clause-line
+returns-clause-line c = one_refused

@@ -1,0 +1,55 @@
+-- The text of a module assembles to the module's object, and to no other.
+use Rattle.std.proofs.Common.{◌≡◌, ℕ, List, ap, sym, ◌∙◌, subst}
+use Rattle.std.proofs.lemmas.List.Elements.{recursion_from_All}
+use Rattle.asm_read.specs.Assembly.{IsObjectOf, IsRefusal}
+use Rattle.asm_read.specs.declared.form.Form.{Form}
+use Rattle.asm_read.specs.declared.object.Object.{Object}
+use Rattle.asm_read.specs.declared.object.ObjectSymbol.{ObjectSymbol}
+use Rattle.asm_read.specs.declared.refusal.AsmRefusal.TheVariants.{Line as RefusedLine}
+use Rattle.asm_read.proofs.AssemblyLemmas.{assembly_once, never_refused}
+use Rattle.ir_syntax.specs.declared.module.Module.{Module}
+use Rattle.rv_isa.specs.declared.inst.Line.{Line}
+use Rattle.cg_part.specs.Allowed.{Assembles}
+use Rattle.cg_part.specs.Built.{IsBuiltFunction}
+use Rattle.cg_part.specs.Program.{IsProgram, part_forms, part_object}
+use Rattle.cg_part.specs.Text.{part_text}
+use Rattle.cg_part.proofs.AssemblingForms.{part_allowed}
+use Rattle.cg_part.proofs.AssemblingNames.{part_passed}
+use Rattle.cg_part.proofs.AssemblingObject.{object_of_part}
+use Rattle.cg_part.proofs.AssemblingPassed.{passed_not_bad}
+use Rattle.cg_part.proofs.AssemblingText.{text_said}
+
+pub part_assembles : (m : Module) → IsProgram m → Assembles (part_text m) (part_object m)
+part_assembles m program =
+    let allowed = part_allowed m.functions (recursion_from_All IsBuiltFunction m.functions program.built) in (
+      part_forms m.functions,
+      record {
+        spelled = text_said m;
+        allowed = allowed;
+        no_bad_line = passed_not_bad (part_forms m.functions) allowed (part_passed m.functions program.differ);
+      },
+      object_of_part m,
+    )
+
+-- so no line of it is refused
+pub part_not_refused : (m : Module) (line : ℕ) → IsProgram m → IsRefusal (part_text m) (RefusedLine line) → ⊥
+part_not_refused m line program refused =
+    let assembles = part_assembles m program in
+    never_refused (part_text m) assembles.0 line assembles.1 refused
+
+abbrev object_with : List Line → List ObjectSymbol → List (List ℕ) → Object
+object_with words symbols needs = record { words = words; symbols = symbols; needs = needs }
+
+-- forms have one object
+one_object : (forms : List Form) (one other : Object) → IsObjectOf forms one → IsObjectOf forms other → one ≡ other
+one_object forms one other first second =
+    ap (λ words. object_with words one.symbols one.needs) (first.has_words ∙ sym second.has_words)
+    ∙ ap (λ symbols. object_with other.words symbols one.needs) (first.has_symbols ∙ sym second.has_symbols)
+    ∙ ap (λ needs. object_with other.words other.symbols needs) (first.has_no_needs ∙ sym second.has_no_needs)
+
+-- and it assembles to no other object
+pub part_assembles_once : (m : Module) (object : Object) → IsProgram m → Assembles (part_text m) object → object ≡ part_object m
+part_assembles_once m object program other =
+    let mine = part_assembles m program in
+    one_object mine.0 object (part_object m)
+    (subst (λ forms. IsObjectOf forms object) (assembly_once (part_text m) other.0 mine.0 other.1 mine.1) other.2) mine.2

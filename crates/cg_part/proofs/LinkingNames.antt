@@ -1,0 +1,76 @@
+-- A program's objects define each name once, and all that they need.
+use Rattle.std.proofs.Common.{◌≡◌, ◌+◌, ◌++◌, ◌∷◌, [], ℕ, List, Bool, true, false, cond, not, ◌&&◌, ◌||◌, refl, ap, sym, ◌∙◌, subst, codes, length, map, filter}
+use Rattle.std.specs.List.{list_any, AllByRecursion as ByRecursion}
+use Rattle.std.specs.Str.{bytes_eq}
+use Rattle.std.proofs.lemmas.List.Elements.{recursion_from_All}
+use Rattle.std.proofs.lemmas.Slice.Eq.{bytes_eq-Decides}
+use Rattle.asm_read.specs.declared.object.ObjectSymbol.{ObjectSymbol}
+use Rattle.ir_syntax.specs.declared.function.Function.{Function}
+use Rattle.ir_syntax.specs.declared.module.Module.{Module}
+use Rattle.obj_link.specs.Cause.{IsResolved}
+use Rattle.obj_link.specs.Names.{is_global, defines_global}
+use Rattle.obj_link.specs.Runtime.{runtime}
+use Rattle.cg_part.specs.Code.{function_code}
+use Rattle.cg_part.specs.Meaning.{IsMain}
+use Rattle.cg_part.specs.Program.{IsFree, IsProgram, function_name, part_object, part_symbols, program_objects}
+use Rattle.cg_part.proofs.LinkingLists.{around}
+
+differ : (a b : List ℕ) → (b ≡ a → ⊥) → bytes_eq a b ≡ false
+differ a b other = by_test (bytes_eq a b) refl
+  where
+    by_test : (t : Bool) → bytes_eq a b ≡ t → t ≡ false
+    by_test true is = absurd (other (sym ((bytes_eq-Decides a b).0 is)))
+    by_test false is = refl
+
+pub same : (a b : List ℕ) → a ≡ b → bytes_eq a b ≡ true
+same a b is = (bytes_eq-Decides a b).1 is
+
+-- the runtime defines no free name
+free_of_runtime : (name : List ℕ) → IsFree name → is_global (runtime ∷ []) name ≡ false
+free_of_runtime name free =
+    let none : Bool → Bool → Bool → Bool = λ a b c. ((true && a) || ((true && b) || ((true && c) || false))) || false in
+    ap (λ a. none a (bytes_eq (codes "__host_put") name) (bytes_eq (codes "__host_get") name)) (differ (codes "_start") name free.not_start)
+    ∙ ap (λ b. none false b (bytes_eq (codes "__host_get") name)) (differ (codes "__host_put") name (free.not_host (codes "put")))
+    ∙ ap (λ c. none false false c) (differ (codes "__host_get") name (free.not_host (codes "get")))
+
+-- whether a symbol is a global one that the runtime defines, too
+abbrev is_again : ObjectSymbol → Bool
+is_again s = s.global && is_global (runtime ∷ []) s.name
+
+none_kept : {A : Type 0} (x : A) (more : List A) (test : Bool) → test ≡ false → more ≡ [] → cond test (x ∷ more) more ≡ []
+none_kept x more test fails none = ap (λ t. cond t (x ∷ more) more) fails ∙ none
+
+none_again : (before : ℕ) (functions : List Function) → ByRecursion (λ f. IsFree (function_name f)) functions →
+    filter is_again (part_symbols before functions) ≡ []
+none_again before [] free = refl
+none_again before (f ∷ functions) free =
+    none_kept _ (filter is_again (part_symbols (before + length (function_code f)) functions)) _ (free_of_runtime (function_name f) free.0)
+    (none_again (before + length (function_code f)) functions free.1)
+
+true_later : (b : Bool) → (b || true) ≡ true
+true_later true = refl
+true_later false = refl
+
+-- the symbols of functions define the name of each
+named_global : (before : ℕ) (front back : List Function) (f : Function) →
+    list_any (λ s. s.global && bytes_eq s.name (function_name f)) (part_symbols before (front ++ f ∷ back)) ≡ true
+named_global before [] back f =
+    ap (λ t. t || list_any (λ s. s.global && bytes_eq s.name (function_name f)) (part_symbols (before + length (function_code f)) back))
+    (same (function_name f) (function_name f) refl)
+named_global before (g ∷ front) back f =
+    ap (λ t. bytes_eq (function_name g) (function_name f) || t) (named_global (before + length (function_code g)) front back f)
+    ∙ true_later (bytes_eq (function_name g) (function_name f))
+
+defines_main : (m : Module) (f : Function) → IsMain m f → defines_global (part_object m) (codes "main") ≡ true
+defines_main m f main =
+    let place = around m.functions f main.among in
+    subst (λ name. list_any (λ s. s.global && bytes_eq s.name name) (part_symbols 0 m.functions) ≡ true) main.named
+    (subst (λ functions. list_any (λ s. s.global && bytes_eq s.name (function_name f)) (part_symbols 0 functions) ≡ true) (sym place.is)
+    (named_global 0 place.front place.back f))
+
+pub part_resolves : (m : Module) (f : Function) → IsProgram m → IsMain m f → IsResolved (program_objects m)
+part_resolves m f program main =
+    let once = none_again 0 m.functions (recursion_from_All _ m.functions program.free) in (
+      ap (λ again. map (λ s. s.name) again ++ []) once,
+      ap (λ t. cond (not (t || false)) (codes "main" ∷ []) [] ++ []) (defines_main m f main),
+    )

@@ -1,0 +1,85 @@
+-- What a module of functions that return a constant or an argument means: the runs of its `main`
+-- (LangRef, "Functions", "'ret' Instruction" and "Simple Constants").
+use Rattle.std.specs.Prelude.{◌≡◌, ◌+◌, ◌-◌, ◌%◌, ◌^◌, ℕ, ℤ, pos, negsuc, zero, suc, Option, Some, None, List, [], ◌∷◌, codes, if◌then◌else◌, Contains}
+use Rattle.ir_syntax.specs.Literals.{literal_value}
+use Rattle.ir_syntax.specs.Names.{name_bytes, same_name}
+use Rattle.ir_syntax.specs.declared.block.Block.{Block}
+use Rattle.ir_syntax.specs.declared.block.Operand.{Operand}
+use Rattle.ir_syntax.specs.declared.block.Operand.TheVariants.{Local, Int}
+use Rattle.ir_syntax.specs.declared.block.Term.{Term}
+use Rattle.ir_syntax.specs.declared.block.Term.TheVariants.{Ret}
+use Rattle.ir_syntax.specs.declared.function.Function.{Function}
+use Rattle.ir_syntax.specs.declared.function.Param.{Param}
+use Rattle.ir_syntax.specs.declared.module.Module.{Module}
+use Rattle.ir_syntax.specs.declared.name.Name.{Name}
+use Rattle.ir_syntax.specs.declared.ty.TyText.{TyText}
+use Rattle.ir_syntax.specs.declared.ty.TyText.TheVariants as types
+
+-- a whole number as a value of this many bits
+abbrev pub wrapped : ℕ → ℤ → ℕ
+wrapped bits (pos n) = n % 2 ^ bits
+wrapped bits (negsuc n) = 2 ^ bits - 1 - n % 2 ^ bits
+
+-- a whole number as a value of a type
+abbrev pub value_at : TyText → ℤ → ℕ
+value_at (types.Int bits) z = wrapped bits z
+
+-- the value of the parameter of a name, in a call with these arguments
+abbrev pub argument_of : Name → List Param → List ℕ → Option ℕ
+argument_of name [] arguments = None
+argument_of name (param ∷ params) [] = None
+argument_of name (param ∷ params) (value ∷ arguments) =
+    if same_name param.name name then Some value else argument_of name params arguments
+
+-- the value of an operand of a type
+abbrev pub operand_value : List Param → List ℕ → TyText → Operand → Option ℕ
+operand_value params arguments ty (Local name) = argument_of name params arguments
+operand_value params arguments ty (Int literal) = Some (value_at ty (literal_value literal))
+
+-- the value that a terminator returns
+abbrev pub term_value : List Param → List ℕ → Term → Option ℕ
+term_value params arguments (Ret line ty value) = operand_value params arguments ty value
+
+-- the value that a call with these arguments returns
+pub record Returns (f : Function) (arguments : List ℕ) (value : ℕ) : Type 0 where
+  pub block : Block
+  pub body : f.blocks ≡ Some (block ∷ [])
+  pub returned : term_value f.params arguments block.term ≡ Some value
+
+-- a function that is defined as `main`, without parameters, and gives an i32
+pub record IsMain (m : Module) (f : Function) : Type 0 where
+  pub among : Contains m.functions f
+  pub named : name_bytes f.name ≡ codes "main"
+  pub result : f.result ≡ Some (types.Int 32)
+  pub params : f.params ≡ []
+
+-- how a run stands: it goes on, it ended with a code, it was trapped, or its behaviour is undefined
+pub data End : Type 0 where
+  going : End
+  ended : ℕ → End
+  trapped : End
+  undefined : End
+
+-- a run so far: how it stands, the bytes that it put, and how many segments it has begun
+pub record Config : Type 0 where
+  pub end : End
+  pub output : List ℕ
+  pub begun : ℕ
+
+-- `main` was called, and nothing is done
+abbrev pub opening : Config
+opening = record { end = going; output = []; begun = 0 }
+
+-- one instruction: the `ret` of `main`, which ends the run with the low 32 bits of what it returns
+pub record Steps (m : Module) (before after : Config) : Type 0 where
+  pub goes : before.end ≡ going
+  pub main : Function
+  pub is_main : IsMain m main
+  pub value : ℕ
+  pub returns : Returns main [] value
+  pub is : after ≡ record { end = ended (value % 2 ^ 32); output = before.output; begun = before.begun + 1 }
+
+-- a run of n instructions from the opening
+abbrev pub IsRun : Module → ℕ → Config → Type 0
+IsRun m zero config = config ≡ opening
+IsRun m (suc n) config = (before : Config) × IsRun m n before × Steps m before config

@@ -1,0 +1,46 @@
+use Rattle.std.proofs.Common.{◌≡◌, ◌++◌, ◌∷◌, [], ◌∙◌, List, ℕ, decimal, subst}
+use Rattle.std.specs.Io.KnownBytes.{Appends}
+use Rattle.std.proofs.KnownBytes.{Appends-trans}
+use Rattle.cg_io.specs.Told.{AppendsPrefix}
+use Rattle.cg_io.proofs.ToldLemmas.{AppendsPrefix-after, AppendsPrefix-longer}
+use Rattle.llc_top.proofs.tell.tell_number.Goals as goal
+
+pub returns-in_err-write_all-clause-prefix : goal.returns-in_err-write_all-clause-prefix
+returns-in_err-write_all-clause-prefix g c =
+    AppendsPrefix-longer _ _ (c.args.text.now ++ decimal c.args.number) (10 ∷ [])
+    (AppendsPrefix-longer _ _ c.args.text.now (decimal c.args.number) c.write_all.ensures.prefix)
+
+pub returns-in_err-write_all-2-clause-prefix : goal.returns-in_err-write_all-2-clause-prefix
+returns-in_err-write_all-2-clause-prefix g c =
+    let digits : c.as_bytes.result.now ≡ decimal c.args.number = c.as_bytes.ensures.value ∙ c.format.ensures.text in
+    AppendsPrefix-longer _ _ (c.args.text.now ++ decimal c.args.number) (10 ∷ [])
+    (AppendsPrefix-after _ _ _ c.args.text.now (decimal c.args.number) c.in_ok-write_all.ensures.all
+    (subst (λ (due : List ℕ). AppendsPrefix (g.E.Sink.written c.write_all.new.sink) (g.E.Sink.written c.write_all-2.new.sink) due) digits
+    c.write_all-2.ensures.prefix))
+
+pub returns-in_err-write_all-3-clause-prefix : goal.returns-in_err-write_all-3-clause-prefix
+returns-in_err-write_all-3-clause-prefix g c =
+    let digits : c.as_bytes.result.now ≡ decimal c.args.number = c.as_bytes.ensures.value ∙ c.format.ensures.text in
+    AppendsPrefix-after _ _ _ (c.args.text.now ++ decimal c.args.number) (10 ∷ [])
+    (Appends-trans _ _ _ c.args.text.now (decimal c.args.number) c.in_ok-write_all.ensures.all
+    (subst (λ (due : List ℕ). Appends (g.E.Sink.written c.write_all.new.sink) (g.E.Sink.written c.write_all-2.new.sink) due) digits
+    c.in_ok-write_all-2.ensures.all))
+    c.write_all-3.ensures.prefix
+
+pub returns-clause-all : goal.returns-clause-all
+returns-clause-all g c =
+    let digits : c.as_bytes.result.now ≡ decimal c.args.number = c.as_bytes.ensures.value ∙ c.format.ensures.text in
+    Appends-trans _ _ _ (c.args.text.now ++ decimal c.args.number) (10 ∷ [])
+    (Appends-trans _ _ _ c.args.text.now (decimal c.args.number) c.in_ok-write_all.ensures.all
+    (subst (λ (due : List ℕ). Appends (g.E.Sink.written c.write_all.new.sink) (g.E.Sink.written c.write_all-2.new.sink) due) digits
+    c.in_ok-write_all-2.ensures.all))
+    c.in_ok-write_all-3.ensures.all
+
+pub returns-clause-prefix : goal.returns-clause-prefix
+returns-clause-prefix g c =
+    let digits : c.as_bytes.result.now ≡ decimal c.args.number = c.as_bytes.ensures.value ∙ c.format.ensures.text in
+    AppendsPrefix-after _ _ _ (c.args.text.now ++ decimal c.args.number) (10 ∷ [])
+    (Appends-trans _ _ _ c.args.text.now (decimal c.args.number) c.in_ok-write_all.ensures.all
+    (subst (λ (due : List ℕ). Appends (g.E.Sink.written c.write_all.new.sink) (g.E.Sink.written c.write_all-2.new.sink) due) digits
+    c.in_ok-write_all-2.ensures.all))
+    c.write_all-3.ensures.prefix

@@ -1,0 +1,45 @@
+-- What an answer says of a text that the source tells, and of what was written.
+use Rattle.std.specs.Prelude.{◌≡◌, ◌≢◌, ℕ, true, Option, Some, List, [], ◌∷◌}
+use Rattle.std.specs.Io.KnownBytes.{Appends}
+use Rattle.cg_part.specs.Allowed.{RunsAllowed, Allowed}
+use Rattle.cg_part.specs.Program.{program_bytes, program_count}
+use Rattle.cg_part.specs.Resolving.{Resolves}
+use Rattle.cg_part.specs.Text.{output_of, part_text}
+use Rattle.ir_syntax.specs.declared.module.Module.{Module}
+use Rattle.ir_syntax.specs.declared.refusal.Refusal.{Refusal}
+use Rattle.llc_top.specs.Main.{has_main}
+use Rattle.llc_top.specs.Outcome.{IsAccepted, IsFirstRefusal, TakesModule, program_run, run_steps}
+use Rattle.llc_top.specs.Words.{mode_of}
+use Rattle.llc_top.specs.declared.command.Mode.{Mode}
+use Rattle.llc_top.specs.declared.command.Mode.TheVariants as modes
+use Rattle.llc_top.specs.declared.status.Status.{Status}
+use Rattle.llc_top.specs.declared.status.Status.TheVariants as statuses
+
+-- a module that a mode takes: to run one it has a `main`
+abbrev pub Serves : Mode → Module → Type 0
+Serves modes.Compile m = Unit {0}
+Serves modes.Run m = has_main m ≡ true
+
+-- an accepted text is never refused, and one with a first refusal never done
+pub record IsExact (words : List (List ℕ)) (left : Option (List ℕ)) (status : Status) : Type 0 where
+  pub accepted : (mode : Mode) (bytes : List ℕ) (m : Module) → mode_of words ≡ Some mode → left ≡ Some bytes →
+      IsAccepted bytes m → Serves mode m → status ≢ statuses.Refused
+  pub refusable : (mode : Mode) (bytes : List ℕ) (refusal : Refusal) → mode_of words ≡ Some mode → left ≡ Some bytes →
+      IsFirstRefusal mode bytes refusal → status ≢ statuses.Done
+
+-- The text of the source's module was written, and it resolves as the one part. If the module has a `main`,
+-- its text assembles and links, and whatever the input and the steps, the image shows what the module allows.
+pub record Compiled (left left' out out' : Option (List ℕ)) : Type 0 where
+  pub compiled : Module
+  pub takes : TakesModule left left' compiled
+  pub wrote : Appends out out' (output_of compiled)
+  pub resolves : Resolves compiled (part_text compiled ∷ [])
+  pub allowed : has_main compiled ≡ true → RunsAllowed compiled (part_text compiled ∷ [])
+
+-- the source's module was run, the output of the machine was written, and the module allows it
+pub record Ran (left left' out out' : Option (List ℕ)) : Type 0 where
+  pub compiled : Module
+  pub takes : TakesModule left left' compiled
+  pub has_a_main : has_main compiled ≡ true
+  pub wrote : Appends out out' (program_run compiled).output
+  pub allowed : Allowed compiled (program_bytes compiled) (program_count compiled) [] run_steps

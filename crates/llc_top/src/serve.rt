@@ -1,0 +1,65 @@
+//! A text that was read whole: refused, compiled or run.
+ghost use Rattle.std.specs.Prelude.{◌≡◌, ◌≤◌, ◌⊎◌, length};
+ghost use Rattle.cg_io.specs.Faults.{Rose};
+ghost use Rattle.cg_part.specs.Program.{IsProgram};
+ghost use Rattle.llc_top.specs.Outcome.{Answers, text_limit};
+ghost use Rattle.llc_top.specs.Partial.{HasTextReason, HasModuleReason};
+
+use crate::answer::answer_refusal;
+use crate::command::Mode;
+use crate::compile::write_output;
+use crate::execute::execute;
+use crate::reader::{ReadError, read_module};
+use crate::start::{defines_a_main, has_a_main};
+use crate::status::Status;
+use cg_io::Sink;
+use ir_syntax::{Module, Refusal};
+use std::alloc::Global;
+
+/// Does with a text what the mode says, or tells on `err` why it is refused.
+pub fn serve_text<O: Sink, E: Sink>(
+    alloc: Global,
+    mode: Mode,
+    text: &[u8],
+    out: &mut O,
+    err: &mut E,
+) -> Status
+    requires { length text.now ≤ text_limit }
+    ensures answer { Answers (HasTextReason mode text.now) result
+        (O.written out.old) (O.written out.new) (E.written err.old) (E.written err.new) }
+    ensures fault { result ≡ Status.WriteFault →
+        Rose (O.faults out.old) (O.faults out.new) ⊎ Rose (E.faults err.old) (E.faults err.new) }
+{
+    match read_module(alloc, text) {
+        Ok(m) => serve_module(alloc, mode, &m, out, err),
+        Err(ReadError::NotYet { line }) => answer_refusal(err, Refusal::NotYet { line }),
+        Err(ReadError::NoMemory) => Status::NoMemory,
+    }
+}
+
+fn serve_module<O: Sink, E: Sink>(
+    alloc: Global,
+    mode: Mode,
+    m: &Module,
+    out: &mut O,
+    err: &mut E,
+) -> Status
+    requires { IsProgram m.now }
+    ensures answer { Answers (HasModuleReason mode m.now) result
+        (O.written out.old) (O.written out.new) (E.written err.old) (E.written err.new) }
+    ensures fault { result ≡ Status.WriteFault →
+        Rose (O.faults out.old) (O.faults out.new) ⊎ Rose (E.faults err.old) (E.faults err.new) }
+{
+    match mode {
+        Mode::Compile => write_output(alloc, m, out),
+        Mode::Run => {
+            if !defines_a_main(m) {
+                return answer_refusal(err, Refusal::NoMain);
+            }
+            if !has_a_main(m) {
+                return answer_refusal(err, Refusal::BadMain);
+            }
+            execute(alloc, m, out, err)
+        }
+    }
+}

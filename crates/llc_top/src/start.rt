@@ -1,0 +1,52 @@
+//! The function that a run begins with.
+ghost use Rattle.std.specs.Prelude.{◌≡◌};
+ghost use Rattle.llc_top.specs.Main.{is_named_main, gives_i32, takes_none, fits_main, defines_main, has_main};
+
+use ir_syntax::{Function, Module, Name, Param, TyText};
+
+/// Whether a `main` is defined.
+pub fn defines_a_main(m: &Module) -> bool
+    ensures { result ≡ defines_main m.now }
+{
+    m.functions
+        .as_slice()
+        .iter()
+        .any(|function| is_main(function))
+}
+
+/// Whether a `main` is defined, of the type that a run can call.
+pub fn has_a_main(m: &Module) -> bool
+    ensures { result ≡ has_main m.now }
+{
+    m.functions
+        .as_slice()
+        .iter()
+        .any(|function| is_main(function) & fits(function))
+}
+
+fn is_main(function: &Function) -> bool
+    ensures { result ≡ is_named_main function.now }
+{
+    match &function.name {
+        Name::Named(name) => name.as_bytes() == b"main".as_slice(),
+        Name::Unnamed(_) => false,
+    }
+}
+
+fn fits(function: &Function) -> bool
+    ensures { result ≡ fits_main function.now }
+{
+    is_i32(&function.result) & is_none(function.params.as_slice())
+}
+
+fn is_i32(ty: &Option<TyText>) -> bool
+    ensures { result ≡ gives_i32 ty.now }
+{
+    matches!(ty, Some(TyText::Int { bits: 32 }))
+}
+
+fn is_none(params: &[Param]) -> bool
+    ensures { result ≡ takes_none params.now }
+{
+    matches!(params, [])
+}
