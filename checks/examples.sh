@@ -1,11 +1,20 @@
 #!/bin/sh
-# Each example compiles to the assembly that stands beside it.
+# Each example compiles to the assembly that stands beside it, and where a `.run` stands there too, a run of
+# it puts nothing and tells that line.
 cd "$(dirname "$0")/.." || exit 1
-made=$(mktemp) || exit 1
-trap 'rm -f "$made"' EXIT
+made=$(mktemp -d) || exit 1
+trap 'rm -rf "$made"' EXIT
+
+same() {
+  cmp -s "$1" "$2" || { echo "$3: this is not $1:"; diff "$1" "$2"; exit 1; }
+}
+
 for module in examples/*.ll; do
-  expected=${module%.ll}.s
-  [ -e "$expected" ] || continue
-  ./llc compile < "$module" > "$made" || { echo "$module: llc ended with status $?"; exit 1; }
-  cmp -s "$expected" "$made" || { echo "$module: this is not $expected:"; diff "$expected" "$made"; exit 1; }
+  example=${module%.ll}
+  ./llc compile < "$module" > "$made/text" || { echo "$module: llc ended with status $?"; exit 1; }
+  same "$example.s" "$made/text" "$module"
+  [ -e "$example.run" ] || continue
+  ./llc run < "$module" > "$made/out" 2> "$made/err" || { echo "$module: its run ended with status $?"; exit 1; }
+  same /dev/null "$made/out" "$module"
+  same "$example.run" "$made/err" "$module"
 done
