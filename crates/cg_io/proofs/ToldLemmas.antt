@@ -4,7 +4,7 @@ use Rattle.std.proofs.Math.Seq.{take-add, take-length}
 use Rattle.std.proofs.KnownBytes.{Appends-nil, Appends-trans, Consumes-nil, Consumes-trans}
 use Rattle.std.specs.declared.option.Option.{Option}
 use Rattle.std.specs.Io.KnownBytes.{Appends, Consumes}
-use Rattle.cg_io.specs.Told.{GivesAll, TakesAtMost, AppendsPrefix, Delivers, DeliversPart}
+use Rattle.cg_io.specs.Told.{GivesAll, TakesAtMost, AppendsPrefix}
 
 -- `&xs[n..]` is all that follows the first n
 rest_from : (n : ℕ) (xs : List ℕ) → take (length xs - n) (drop n xs) ≡ drop n xs
@@ -69,15 +69,3 @@ TakesAtMost-none n a = record { bytes = []; taken = Consumes-nil a; count = omeg
 -- a higher bound holds too
 pub TakesAtMost-weaker : (n m : ℕ) (a b : Option (List ℕ)) → n ≤ m → TakesAtMost n a b → TakesAtMost m a b
 TakesAtMost-weaker n m a b higher p = record { bytes = p.bytes; taken = p.taken; count = omega (arith, p.count) }
-
--- a text that is made of all that a source gave, and a sink that got it
-pub Delivers-of_parts : (Makes : List ℕ → List ℕ → Type 0) (left left' written written' : Option (List ℕ)) (bytes text : List ℕ)
-    → GivesAll left left' bytes → Makes bytes text → Appends written written' text → Delivers Makes left left' written written'
-Delivers-of_parts Makes left left' written written' bytes text gave makes got =
-    record { bytes = bytes; text = text; gave = gave; makes = makes; got = got }
-
--- the same, where the sink got only a first part
-pub DeliversPart-of_parts : (Makes : List ℕ → List ℕ → Type 0) (left left' written written' : Option (List ℕ)) (bytes text : List ℕ)
-    → GivesAll left left' bytes → Makes bytes text → AppendsPrefix written written' text → DeliversPart Makes left left' written written'
-DeliversPart-of_parts Makes left left' written written' bytes text gave makes got =
-    record { bytes = bytes; text = text; gave = gave; makes = makes; got = got }

@@ -31,23 +31,3 @@ pub record AppendsPrefix (old new : Option (List ℕ)) (due : List ℕ) : Type 0
   pub rest : List ℕ
   pub split : due ≡ front ++ rest
   pub appended : Appends old new front
-
--- there are bytes that the source gave, to its end, and the sink got exactly the text that is made of them
-pub record Delivers (Makes : List ℕ → List ℕ → Type 0) (left left' written written' : Option (List ℕ)) : Type 0 where
-  pub bytes : List ℕ
-  pub text : List ℕ
-  pub gave : GivesAll left left' bytes
-  pub makes : Makes bytes text
-  pub got : Appends written written' text
-
--- the same, but the sink got only some first part of the text
-pub record DeliversPart (Makes : List ℕ → List ℕ → Type 0) (left left' written written' : Option (List ℕ)) : Type 0 where
-  pub bytes : List ℕ
-  pub text : List ℕ
-  pub gave : GivesAll left left' bytes
-  pub makes : Makes bytes text
-  pub got : AppendsPrefix written written' text
-
--- there are bytes that the source gave, to its end, and the sink got exactly these bytes
-abbrev pub Passes : Option (List ℕ) → Option (List ℕ) → Option (List ℕ) → Option (List ℕ) → Type 0
-Passes = Delivers (λ bytes text. text ≡ bytes)

@@ -22,5 +22,6 @@ pub enum ReadEnd {
 #[derive(Clone, Copy, Debug, PartialEq, Eq, Error)]
 #[error("a write failed after {written} bytes")]
 pub struct WriteFault {
+    /// How many bytes were written.
     pub written: usize,
 }

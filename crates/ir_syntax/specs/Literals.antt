@@ -1,5 +1,5 @@
 -- The number that a literal writes.
-use Rattle.std.specs.Prelude.{ℤ, pos, neg_ℤ, Bool, if◌then◌else◌}
+use Rattle.std.specs.Prelude.{ℤ, pos, neg_ℤ, if◌then◌else◌}
 use Rattle.ir_syntax.specs.declared.literal.Literal.{Literal}
 
 -- its magnitude, below zero after a minus

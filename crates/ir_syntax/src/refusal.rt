@@ -1,6 +1,6 @@
 //! Why a text is refused.
 
-/// Why a text is refused. The answer is the refusal of the least number that holds.
+/// Why a text is refused. The answer is the first of these that holds, in the order that they stand in here.
 #[derive(Clone, Copy, Debug, PartialEq, Eq)]
 pub enum Refusal {
     /// Number 1: more than 16,777,216 bytes were read.
@@ -8,9 +8,9 @@ pub enum Refusal {
         /// How many bytes were read.
         taken: u64,
     },
-    /// Number 18: an item of the module is not built yet.
+    /// Number 18: the text is not one that is built yet.
     NotYet {
-        /// The line of the first such item.
+        /// The first line up to which the text begins no module, or the last one.
         line: u32,
     },
     /// Number 14: a module that is to be run defines no function `main`.
