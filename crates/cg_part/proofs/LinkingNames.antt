@@ -8,7 +8,7 @@ use Rattle.asm_read.specs.declared.object.ObjectSymbol.{ObjectSymbol}
 use Rattle.ir_syntax.specs.declared.function.Function.{Function}
 use Rattle.ir_syntax.specs.declared.module.Module.{Module}
 use Rattle.obj_link.specs.Cause.{IsResolved}
-use Rattle.obj_link.specs.Names.{is_global, defines_global}
+use Rattle.obj_link.specs.Names.{is_global, defines_global, duplicates}
 use Rattle.obj_link.specs.Runtime.{runtime}
 use Rattle.cg_part.specs.Code.{function_code}
 use Rattle.cg_part.specs.Meaning.{IsMain}
@@ -68,9 +68,11 @@ defines_main m f main =
     (subst (λ functions. list_any (λ s. s.global && bytes_eq s.name (function_name f)) (part_symbols 0 functions) ≡ true) (sym place.is)
     (named_global 0 place.front place.back f))
 
+-- no name is defined twice, also where there is no `main`
+pub part_differs : (m : Module) → IsProgram m → duplicates (program_objects m) ≡ []
+part_differs m program =
+    ap (λ again. map (λ s. s.name) again ++ []) (none_again 0 m.functions (recursion_from_All _ m.functions program.free))
+
 pub part_resolves : (m : Module) (f : Function) → IsProgram m → IsMain m f → IsResolved (program_objects m)
 part_resolves m f program main =
-    let once = none_again 0 m.functions (recursion_from_All _ m.functions program.free) in (
-      ap (λ again. map (λ s. s.name) again ++ []) once,
-      ap (λ t. cond (not (t || false)) (codes "main" ∷ []) [] ++ []) (defines_main m f main),
-    )
+    (part_differs m program, ap (λ t. cond (not (t || false)) (codes "main" ∷ []) [] ++ []) (defines_main m f main))

@@ -1,6 +1,6 @@
 -- What a module of functions that return a constant or an argument means: the runs of its `main`
 -- (LangRef, "Functions", "'ret' Instruction" and "Simple Constants").
-use Rattle.std.specs.Prelude.{◌≡◌, ◌+◌, ◌-◌, ◌%◌, ◌^◌, ℕ, ℤ, pos, negsuc, zero, suc, Option, Some, None, List, [], ◌∷◌, codes, if◌then◌else◌, Contains}
+use Rattle.std.specs.Prelude.{◌≡◌, ◌+◌, ◌-◌, ◌%◌, ◌^◌, ℕ, ℤ, pos, negsuc, zero, suc, Option, Some, None, is_some, true, List, [], ◌∷◌, codes, if◌then◌else◌, Contains}
 use Rattle.ir_syntax.specs.Literals.{literal_value}
 use Rattle.ir_syntax.specs.Names.{name_bytes, same_name}
 use Rattle.ir_syntax.specs.declared.block.Block.{Block}
@@ -49,6 +49,7 @@ pub record Returns (f : Function) (arguments : List ℕ) (value : ℕ) : Type 0 
 -- a function that is defined as `main`, without parameters, and gives an i32
 pub record IsMain (m : Module) (f : Function) : Type 0 where
   pub among : Contains m.functions f
+  pub defined : is_some f.blocks ≡ true
   pub named : name_bytes f.name ≡ codes "main"
   pub result : f.result ≡ Some (types.Int 32)
   pub params : f.params ≡ []

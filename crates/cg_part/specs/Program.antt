@@ -28,7 +28,7 @@ pub record IsFree (name : List ℕ) : Type 0 where
 abbrev pub function_name : Function → List ℕ
 function_name f = name_bytes f.name
 
--- a module of the built set whose names are free and differ
+-- a module of the built set, of at most 4,096 functions, whose names are free and differ
 pub record IsProgram (m : Module) : Type 0 where
   pub built : IsBuilt m
   pub free : All (λ f. IsFree (function_name f)) m.functions

@@ -6,6 +6,7 @@ use Rattle.ir_syntax.specs.declared.function.Function.{Function}
 use Rattle.ir_syntax.specs.declared.module.Module.{Module}
 use Rattle.rv_isa.specs.Lines.{pieces_of}
 use Rattle.rv_isa.specs.Symbol.{is_digit, is_symbol_byte}
+use Rattle.asm_read.specs.Forms.{is_number}
 use Rattle.cg_part.specs.Text.{symbol_of}
 
 -- the front of bytes that pass a test
@@ -31,12 +32,6 @@ symbol_at (b ∷ bytes) =
     if b == 34 then b ∷ quoted_front false bytes
     else if is_digit b then []
     else front_of is_symbol_byte (b ∷ bytes)
-
--- a number: 0, or digits that do not begin with 0
-abbrev pub is_number : List ℕ → Bool
-is_number [] = false
-is_number (b ∷ []) = is_digit b
-is_number (b ∷ c ∷ bytes) = is_digit b && not (b == 48) && is_digit c && bytes_eq (front_of is_digit bytes) bytes
 
 -- two numbers with `_` between them
 abbrev pub is_number_pair : List ℕ → Bool
