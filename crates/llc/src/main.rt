@@ -5,16 +5,21 @@
 use cg_io::{NoMemory, StdSink, StdSource};
 use llc_top::{Status, run_llc};
 use std::env;
+use std::io::ErrorKind;
 use std::process::ExitCode;
 
 /// The words of the command line, the program's name first. Words that are no text stand for none,
 /// which no run accepts.
 fn words_of(rt: &HostRuntime) -> Result<Vec<String>, NoMemory> {
     let mut words = Vec::new(rt.alloc());
-    if let Ok(args) = env::args(rt) {
-        for word in args {
-            words.push(word)?;
+    match env::args(rt) {
+        Ok(args) => {
+            for word in args {
+                words.push(word)?;
+            }
         }
+        Err(fault) if fault.kind() == ErrorKind::OutOfMemory => return Err(NoMemory),
+        Err(_) => (),
     }
     Ok(words)
 }

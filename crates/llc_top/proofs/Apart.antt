@@ -9,14 +9,16 @@ use Rattle.cg_io.specs.Told.{GivesAll, TakesExactly}
 use Rattle.cg_io.proofs.ToldLemmas.{GivesAll-told}
 use Rattle.cg_part.proofs.AllowedLemmas.{program_allowed, program_shows}
 use Rattle.cg_part.specs.Program.{IsProgram}
+use Rattle.cg_part.proofs.AssemblingLemmas.{part_assembles}
+use Rattle.cg_part.proofs.LinkingNames.{part_differs, part_resolves}
 use Rattle.cg_part.proofs.ResolvingLemmas.{text_resolves}
 use Rattle.ir_syntax.specs.declared.function.Function.{Function}
 use Rattle.ir_syntax.specs.declared.module.Module.{Module}
 use Rattle.ir_syntax.specs.declared.refusal.Refusal.{Refusal}
 use Rattle.ir_syntax.specs.declared.refusal.Refusal.TheVariants as refusals
 use Rattle.llc_top.specs.Exact.{IsExact, Serves, Compiled, Ran}
-use Rattle.llc_top.specs.Main.{defines_main, has_main, is_named_main, fits_main}
-use Rattle.llc_top.specs.Outcome.{Outcome, words_refused, read_failed, refuses, compiles, runs, status_of, out_due, HasReason, Answers, IsAccepted, IsFirstRefusal, TakesModule, TakesRefused, run_steps}
+use Rattle.llc_top.specs.Main.{defines_main, has_main, is_defined_main, fits_main}
+use Rattle.llc_top.specs.Outcome.{Outcome, words_refused, read_failed, refuses, compiles, runs, status_of, out_due, err_due, HasReason, Answers, IsAccepted, IsFirstRefusal, TakesModule, TakesRefused, run_steps}
 use Rattle.llc_top.specs.Words.{mode_of}
 use Rattle.llc_top.specs.declared.command.Mode.{Mode}
 use Rattle.llc_top.specs.declared.command.Mode.TheVariants as modes
@@ -40,23 +42,23 @@ given left left' bytes all told gave = GivesAll-told bytes left' all (subst (λ 
 
 -- two modules of one text have the same functions, and so the same main
 same_main : (bytes : List ℕ) (m k : Module) → IsAccepted bytes m → IsAccepted bytes k → has_main m ≡ has_main k
-same_main bytes m k one other = ap (list_any (λ f. is_named_main f && fits_main f)) (unique bytes m k one.reads other.reads)
+same_main bytes m k one other = ap (list_any (λ f. is_defined_main f && fits_main f)) (unique bytes m k one.reads other.reads)
 
 same_defined : (bytes : List ℕ) (m k : Module) → IsAccepted bytes m → IsAccepted bytes k → defines_main m ≡ defines_main k
-same_defined bytes m k one other = ap (list_any is_named_main) (unique bytes m k one.reads other.reads)
+same_defined bytes m k one other = ap (list_any is_defined_main) (unique bytes m k one.reads other.reads)
 
 or_later : (a b : Bool) → b ≡ true → (a || b) ≡ true
 or_later true b later = refl
 or_later false b later = later
 
 -- a module that has a main defines one
-main_defined : (functions : List Function) → list_any (λ f. is_named_main f && fits_main f) functions ≡ true → list_any is_named_main functions ≡ true
+main_defined : (functions : List Function) → list_any (λ f. is_defined_main f && fits_main f) functions ≡ true → list_any is_defined_main functions ≡ true
 main_defined [] has = has
 main_defined (f ∷ functions) has =
     ⊎_elim
-    (λ here. ap (λ t. t || list_any is_named_main functions) (and_parts (is_named_main f) (fits_main f) here).0)
-    (λ later. or_later (is_named_main f) (list_any is_named_main functions) (main_defined functions later))
-    (or_cases (is_named_main f && fits_main f) (list_any (λ g. is_named_main g && fits_main g) functions) has)
+    (λ here. ap (λ t. t || list_any is_defined_main functions) (and_parts (is_defined_main f) (fits_main f) here).0)
+    (λ later. or_later (is_defined_main f) (list_any is_defined_main functions) (main_defined functions later))
+    (or_cases (is_defined_main f && fits_main f) (list_any (λ g. is_defined_main g && fits_main g) functions) has)
 
 -- to run a module it has a main
 serves_run : (mode : Mode) (m : Module) → mode ≡ modes.Run → Serves mode m → has_main m ≡ true
@@ -92,9 +94,9 @@ taken_accepted left left' bytes m told takes = subst (λ b. IsAccepted b m) (giv
 one_mode : (a b : Mode) (read : Option Mode) → read ≡ Some a → read ≡ Some b → a ≡ b
 one_mode a b read first second = cc
 
-module _ (words : List (List ℕ)) (left left' out out' err err' : Option (List ℕ)) where
+module _ (words : List (List ℕ)) (left left' : Option (List ℕ)) (faults faults' : ℕ) (out out' err err' : Option (List ℕ)) where
   never_refused : (mode : Mode) (bytes : List ℕ) (m : Module) (outcome : Outcome) → mode_of words ≡ Some mode → left ≡ Some bytes →
-      IsAccepted bytes m → Serves mode m → HasReason words left left' outcome → status_of outcome ≡ statuses.Refused → ⊥
+      IsAccepted bytes m → Serves mode m → HasReason words left left' faults faults' outcome → status_of outcome ≡ statuses.Refused → ⊥
   never_refused mode bytes m words_refused asked told accepted serves reason is = cc
   never_refused mode bytes m read_failed asked told accepted serves reason is = cc
   never_refused mode bytes m (refuses refusal) asked told accepted serves (other, is_mode, takes) is =
@@ -104,7 +106,7 @@ module _ (words : List (List ℕ)) (left left' out out' err err' : Option (List 
   never_refused mode bytes m (runs other) asked told accepted serves reason is = cc
 
   never_done : (mode : Mode) (bytes : List ℕ) (refusal : Refusal) (outcome : Outcome) → mode_of words ≡ Some mode → left ≡ Some bytes →
-      IsFirstRefusal mode bytes refusal → HasReason words left left' outcome → status_of outcome ≡ statuses.Done → ⊥
+      IsFirstRefusal mode bytes refusal → HasReason words left left' faults faults' outcome → status_of outcome ≡ statuses.Done → ⊥
   never_done mode bytes refusal words_refused asked told refused reason is = cc
   never_done mode bytes refusal read_failed asked told refused reason is = cc
   never_done mode bytes refusal (refuses other) asked told refused reason is = cc
@@ -116,17 +118,17 @@ module _ (words : List (List ℕ)) (left left' out out' err err' : Option (List 
       (subst (λ a. Serves a m) (one_mode modes.Run mode (mode_of words) reason.0 asked) reason.2) refused
 
   -- an answer is exact
-  pub answer_exact : (status : Status) → Answers (HasReason words left left') status out out' err err' → IsExact words left status
+  pub answer_exact : (status : Status) → Answers (HasReason words left left' faults faults') status out out' err err' → IsExact words left status
   answer_exact status answer = record {
     accepted = λ mode bytes m asked told accepted serves is.
-        let at = subst (λ s. Answers (HasReason words left left') s out out' err err') is answer in
+        let at = subst (λ s. Answers (HasReason words left left' faults faults') s out out' err err') is answer in
         never_refused mode bytes m at.0 asked told accepted serves at.1 at.2;
     refusable = λ mode bytes refusal asked told refused is.
-        let at = subst (λ s. Answers (HasReason words left left') s out out' err err') is answer in
+        let at = subst (λ s. Answers (HasReason words left left' faults faults') s out out' err err') is answer in
         never_done mode bytes refusal at.0 asked told refused at.1 at.2;
   }
 
-  compiled_by : (outcome : Outcome) → mode_of words ≡ Some modes.Compile → HasReason words left left' outcome →
+  compiled_by : (outcome : Outcome) → mode_of words ≡ Some modes.Compile → HasReason words left left' faults faults' outcome →
       status_of outcome ≡ statuses.Done → Appends out out' (out_due outcome) → Compiled left left' out out'
   compiled_by words_refused asked reason is results = absurd (cc)
   compiled_by read_failed asked reason is results = absurd (cc)
@@ -138,38 +140,44 @@ module _ (words : List (List ℕ)) (left left' out out' err err' : Option (List 
         takes = reason.1;
         wrote = results;
         resolves = text_resolves m program.built;
+        assembled = part_assembles m program;
+        differ = part_differs m program;
         allowed = λ has. let main = main_is m has in program_allowed m main.0 program main.1;
       }
   compiled_by (runs m) asked reason is results =
       let same : modes.Run ≡ modes.Compile = one_mode modes.Run modes.Compile (mode_of words) reason.0 asked in absurd (cc)
 
-  ran_by : (outcome : Outcome) → mode_of words ≡ Some modes.Run → HasReason words left left' outcome →
-      status_of outcome ≡ statuses.Done → Appends out out' (out_due outcome) → Ran left left' out out'
-  ran_by words_refused asked reason is results = absurd (cc)
-  ran_by read_failed asked reason is results = absurd (cc)
-  ran_by (refuses refusal) asked reason is results = absurd (cc)
-  ran_by (compiles m) asked reason is results =
+  ran_by : (outcome : Outcome) → mode_of words ≡ Some modes.Run → HasReason words left left' faults faults' outcome →
+      status_of outcome ≡ statuses.Done → Appends out out' (out_due outcome) → Appends err err' (err_due outcome) → Ran left left' out out' err err'
+  ran_by words_refused asked reason is results errors = absurd (cc)
+  ran_by read_failed asked reason is results errors = absurd (cc)
+  ran_by (refuses refusal) asked reason is results errors = absurd (cc)
+  ran_by (compiles m) asked reason is results errors =
       let same : modes.Compile ≡ modes.Run = one_mode modes.Compile modes.Run (mode_of words) reason.0 asked in absurd (cc)
-  ran_by (runs m) asked reason is results =
+  ran_by (runs m) asked reason is results errors =
       let main = main_is m reason.2 in
+      let program : IsProgram m = reads_program reason.1.bytes m reason.1.accepted.reads in
       record {
         compiled = m;
         takes = reason.1;
         has_a_main = reason.2;
+        assembled = part_assembles m program;
+        resolved = part_resolves m main.0 program main.1;
         wrote = results;
-        allowed = program_shows m main.0 (reads_program reason.1.bytes m reason.1.accepted.reads) main.1 [] run_steps;
+        told = errors;
+        allowed = program_shows m main.0 program main.1 [] run_steps;
       }
 
   -- what was written resolves, and its image shows what the module allows
-  pub answer_compiled : (status : Status) → Answers (HasReason words left left') status out out' err err' → status ≡ statuses.Done →
+  pub answer_compiled : (status : Status) → Answers (HasReason words left left' faults faults') status out out' err err' → status ≡ statuses.Done →
       mode_of words ≡ Some modes.Compile → Compiled left left' out out'
   answer_compiled status answer is asked =
-      let at = subst (λ s. Answers (HasReason words left left') s out out' err err') is answer in
+      let at = subst (λ s. Answers (HasReason words left left' faults faults') s out out' err err') is answer in
       compiled_by at.0 asked at.1 at.2 at.3.results
 
   -- what was shown is what the module allows
-  pub answer_ran : (status : Status) → Answers (HasReason words left left') status out out' err err' → status ≡ statuses.Done →
-      mode_of words ≡ Some modes.Run → Ran left left' out out'
+  pub answer_ran : (status : Status) → Answers (HasReason words left left' faults faults') status out out' err err' → status ≡ statuses.Done →
+      mode_of words ≡ Some modes.Run → Ran left left' out out' err err'
   answer_ran status answer is asked =
-      let at = subst (λ s. Answers (HasReason words left left') s out out' err err') is answer in
-      ran_by at.0 asked at.1 at.2 at.3.results
+      let at = subst (λ s. Answers (HasReason words left left' faults faults') s out out' err err') is answer in
+      ran_by at.0 asked at.1 at.2 at.3.results at.3.errors

@@ -78,7 +78,7 @@ module _ (line : ℕ) where
       ∙ ap (λ (o : Option (ℕ × List ℕ)). o >>= typed) (type_again d.bits e4 is.sized)
       ∙ ap (λ (o : Option (List ℕ)). o >>= sigiled d.bits) (after_again (codes " @") e3)
       ∙ ap (λ (o : Option (List ℕ × List ℕ)). o >>= named d.bits) (name_again d.name e2 is.named refl)
-      ∙ ap (λ (b : Bool). cond b None (after (codes "(") e2) >>= bracketed d.bits d.name) (free_again d.name is.not_start is.not_host)
+      ∙ ap (λ (b : Bool). cond b None (after (codes "(") e2) >>= bracketed d.bits d.name) (free_again d.name is.free.not_start is.free.not_host)
       ∙ ap (λ (o : Option (List ℕ)). o >>= bracketed d.bits d.name) (after_again (codes "(") e1)
       ∙ ap (λ (o : Option (List Param × List ℕ)). o >>= closed d.bits d.name) (params_again line d.bits d.params is.sized is.params_named is.few is.params_differ)
 
@@ -111,8 +111,7 @@ module _ (line : ℕ) where
         d = d;
         is = record {
           named = m.1;
-          not_start = not_start name g.0;
-          not_host = not_host name g.0;
+          free = record { not_start = not_start name g.0; not_host = not_host name g.0 };
           sized = t.1;
           few = ps.few;
           params_named = ps.are;

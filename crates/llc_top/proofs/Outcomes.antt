@@ -1,8 +1,7 @@
 -- From what a part of the run tells to what the run answers.
-use Rattle.std.proofs.Common.{◌≡◌, ◌≤◌, ℕ, Option, Some, List, [], length, inl, inr, sym, refl, ap, ◌∙◌, subst, arith}
+use Rattle.std.proofs.Common.{◌≡◌, ◌≤◌, ℕ, Option, Some, List, length, inl, inr, sym, refl, ap, ◌∙◌, subst, arith}
 use Rattle.std.proofs.KnownBytes.{Appends-nil}
 use Rattle.cg_io.specs.Told.{GivesAll}
-use Rattle.cg_io.proofs.ToldLemmas.{AppendsPrefix-none}
 use Rattle.ir_syntax.specs.declared.module.Module.{Module}
 use Rattle.ir_syntax.specs.declared.refusal.Refusal.{Refusal}
 use Rattle.ir_syntax.specs.declared.refusal.Refusal.TheVariants as refusals
@@ -24,7 +23,7 @@ module _ (Reason : Outcome → Type 0) (out err err' : Option (List ℕ)) where
       (words_refused, reason, refl, record { results = Appends-nil out; errors = told })
   words_answer status reason (inr (is, part)) =
       subst (λ s. Answers Reason s out out err err') (sym is)
-      (words_refused, reason, record { results = AppendsPrefix-none out []; errors = part })
+      (words_refused, reason, inr (Appends-nil out, part))
 
   -- a read that failed, told or told in part
   pub fault_answer : (status : Status) → Reason read_failed → Told status statuses.ReadFault (err_due read_failed) err err' →
@@ -34,13 +33,13 @@ module _ (Reason : Outcome → Type 0) (out err err' : Option (List ℕ)) where
       (read_failed, reason, refl, record { results = Appends-nil out; errors = told })
   fault_answer status reason (inr (is, part)) =
       subst (λ s. Answers Reason s out out err err') (sym is)
-      (read_failed, reason, record { results = AppendsPrefix-none out []; errors = part })
+      (read_failed, reason, inr (Appends-nil out, part))
 
   -- a refusal, told or told in part
   pub refusal_answer : (refusal : Refusal) (status : Status) → Reason (refuses refusal) → ToldRefusal refusal status err err' →
       Answers Reason status out out err err'
   refusal_answer refusal statuses.Refused reason told = (refuses refusal, reason, refl, record { results = Appends-nil out; errors = told })
-  refusal_answer refusal statuses.WriteFault reason part = (refuses refusal, reason, record { results = AppendsPrefix-none out []; errors = part })
+  refusal_answer refusal statuses.WriteFault reason part = (refuses refusal, reason, inr (Appends-nil out, part))
   refusal_answer refusal statuses.NoMemory reason never = absurd never
   refusal_answer refusal statuses.Done reason never = absurd never
   refusal_answer refusal statuses.Words reason never = absurd never
@@ -50,7 +49,7 @@ module _ (Reason : Outcome → Type 0) (out err err' : Option (List ℕ)) where
 pub written_answer : (Reason : Outcome → Type 0) (m : Module) (status : Status) (out out' err : Option (List ℕ)) →
     Reason (compiles m) → Written m status out out' → Answers Reason status out out' err err
 written_answer Reason m statuses.Done out out' err reason told = (compiles m, reason, refl, record { results = told; errors = Appends-nil err })
-written_answer Reason m statuses.WriteFault out out' err reason part = (compiles m, reason, record { results = part; errors = AppendsPrefix-none err [] })
+written_answer Reason m statuses.WriteFault out out' err reason part = (compiles m, reason, inl (part, Appends-nil err))
 written_answer Reason m statuses.NoMemory out out' err reason none = (none, Appends-nil err)
 written_answer Reason m statuses.Refused out out' err reason never = absurd never
 written_answer Reason m statuses.Words out out' err reason never = absurd never
@@ -91,17 +90,17 @@ text_reason mode bytes m accepted (runs other) reason =
     (reason.0, subst (IsAccepted bytes) (sym reason.1) accepted, ap has_main reason.1 ∙ reason.2)
 
 -- what the whole text of the source comes to, the run comes to
-pub whole_reason : (words : List (List ℕ)) (mode : Mode) (left left' : Option (List ℕ)) (bytes : List ℕ) → mode_of words ≡ Some mode →
+pub whole_reason : (words : List (List ℕ)) (mode : Mode) (left left' : Option (List ℕ)) (faults faults' : ℕ) (bytes : List ℕ) → mode_of words ≡ Some mode →
     GivesAll left left' bytes → length bytes ≤ text_limit → (outcome : Outcome) →
-    HasTextReason mode bytes outcome → HasReason words left left' outcome
-whole_reason words mode left left' bytes is gave short words_refused never = absurd never
-whole_reason words mode left left' bytes is gave short read_failed never = absurd never
-whole_reason words mode left left' bytes is gave short (refuses (refusals.TooLong taken)) long = absurd (omega (arith, short, long.0))
-whole_reason words mode left left' bytes is gave short (refuses refusals.NoMain) reason = (mode, is, (bytes, gave, reason))
-whole_reason words mode left left' bytes is gave short (refuses refusals.BadMain) reason = (mode, is, (bytes, gave, reason))
-whole_reason words mode left left' bytes is gave short (refuses (refusals.NotYet line)) reason = (mode, is, (bytes, gave, reason))
-whole_reason words mode left left' bytes is gave short (refuses refusals.NoMemory) never = absurd never
-whole_reason words mode left left' bytes is gave short (compiles m) reason =
+    HasTextReason mode bytes outcome → HasReason words left left' faults faults' outcome
+whole_reason words mode left left' faults faults' bytes is gave short words_refused never = absurd never
+whole_reason words mode left left' faults faults' bytes is gave short read_failed never = absurd never
+whole_reason words mode left left' faults faults' bytes is gave short (refuses (refusals.TooLong taken)) long = absurd (omega (arith, short, long.0))
+whole_reason words mode left left' faults faults' bytes is gave short (refuses refusals.NoMain) reason = (mode, is, (bytes, gave, reason))
+whole_reason words mode left left' faults faults' bytes is gave short (refuses refusals.BadMain) reason = (mode, is, (bytes, gave, reason))
+whole_reason words mode left left' faults faults' bytes is gave short (refuses (refusals.NotYet line)) reason = (mode, is, (bytes, gave, reason))
+whole_reason words mode left left' faults faults' bytes is gave short (refuses refusals.NoMemory) never = absurd never
+whole_reason words mode left left' faults faults' bytes is gave short (compiles m) reason =
     (is ∙ ap Some reason.0, record { bytes = bytes; gave = gave; accepted = reason.1 })
-whole_reason words mode left left' bytes is gave short (runs m) reason =
+whole_reason words mode left left' faults faults' bytes is gave short (runs m) reason =
     (is ∙ ap Some reason.0, record { bytes = bytes; gave = gave; accepted = reason.1 }, reason.2)

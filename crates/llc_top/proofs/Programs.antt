@@ -9,6 +9,7 @@ use Rattle.std.proofs.lemmas.List.Elements.{All-from_recursion, All-same}
 use Rattle.cg_part.specs.Built.{IsBuiltFunction, IsBuiltOperand}
 use Rattle.cg_part.specs.Meaning.{IsMain}
 use Rattle.cg_part.specs.Program.{IsFree, IsProgram, function_name}
+use Rattle.cg_part.specs.Resolving.{has_body}
 use Rattle.cg_part.proofs.PlaceLemmas.{place_found}
 use Rattle.ir_syntax.specs.Literals.{literal_value}
 use Rattle.ir_syntax.specs.declared.function.Function.{Function}
@@ -18,7 +19,7 @@ use Rattle.ir_syntax.specs.declared.ty.TyText.{TyText}
 use Rattle.ir_syntax.specs.declared.ty.TyText.TheVariants as types
 use Rattle.rv_isa.specs.Encoding.{IsSigned12}
 use Rattle.llc_top.specs.Definition.{Definition, IsDefinition, Returned, argument, constant, IsReturned}
-use Rattle.llc_top.specs.Main.{is_named_main, fits_main, has_main, gives_i32, takes_none}
+use Rattle.llc_top.specs.Main.{is_defined_main, fits_main, has_main, gives_i32, takes_none}
 use Rattle.llc_top.specs.Reads.{Reads}
 use Rattle.llc_top.specs.Tree.{function_of, functions_of, operand_of, param_of, literal_of}
 
@@ -47,7 +48,7 @@ built_functions line (d ∷ ds) each = (built_function line d each.0, built_func
 free_functions : (line : ℕ) (ds : List Definition) → ByRecursion IsDefinition ds → ByRecursion (λ f. IsFree (function_name f)) (functions_of line ds)
 free_functions line [] each = tt
 free_functions line (d ∷ ds) each =
-    (record { not_start = each.0.not_start; not_host = each.0.not_host }, free_functions (line + 3) ds each.1)
+    (each.0.free, free_functions (line + 3) ds each.1)
 
 function_names : (line : ℕ) (ds : List Definition) → map function_name (functions_of line ds) ≡ map (λ d. d.name) ds
 function_names line [] = refl
@@ -74,17 +75,17 @@ reads_program bytes m reads =
 record Found (functions : List Function) : Type 0 where
   found : Function
   among : Contains functions found
-  is_named : is_named_main found ≡ true
+  is_named : is_defined_main found ≡ true
   fits : fits_main found ≡ true
 
-find_main : (functions : List Function) → list_any (λ f. is_named_main f && fits_main f) functions ≡ true → Found functions
+find_main : (functions : List Function) → list_any (λ f. is_defined_main f && fits_main f) functions ≡ true → Found functions
 find_main [] any = absurd (cc)
 find_main (f ∷ functions) any =
     ⊎_elim
-    (λ here. let parts = and_parts (is_named_main f) (fits_main f) here in
+    (λ here. let parts = and_parts (is_defined_main f) (fits_main f) here in
     record { found = f; among = (0, omega arith, refl); is_named = parts.0; fits = parts.1 })
     (λ later. in_rest (find_main functions later))
-    (or_cases (is_named_main f && fits_main f) (list_any (λ g. is_named_main g && fits_main g) functions) any)
+    (or_cases (is_defined_main f && fits_main f) (list_any (λ g. is_defined_main g && fits_main g) functions) any)
   where
     in_rest : Found functions → Found (f ∷ functions)
     in_rest rest = record {
@@ -106,11 +107,13 @@ is_empty (param ∷ params) wrong = absurd (cc)
 pub main_is : (m : Module) → has_main m ≡ true → (f : Function) × IsMain m f
 main_is m has =
     let main = find_main m.functions has in
-    let parts = and_parts (gives_i32 main.found.result) (takes_none main.found.params) main.fits in (
+    let parts = and_parts (gives_i32 main.found.result) (takes_none main.found.params) main.fits in
+    let named = and_parts (has_body main.found) (bytes_eq (function_name main.found) (codes "main")) main.is_named in (
       main.found,
       record {
         among = main.among;
-        named = same_text (function_name main.found) (codes "main") (sym main.is_named);
+        defined = named.0;
+        named = same_text (function_name main.found) (codes "main") (sym named.1);
         result = is_i32 main.found.result parts.0;
         params = is_empty main.found.params parts.1;
       },

@@ -130,8 +130,7 @@ module _ (functions : List Function) (names : List (List ℕ)) (lines : List (Li
       let defined : IsDefinition d = all_last ds d [] is.1.all.each in
       let defines : IsDefinition c = record {
         named = defined.named;
-        not_start = defined.not_start;
-        not_host = defined.not_host;
+        free = defined.free;
         sized = defined.sized;
         few = defined.few;
         params_named = defined.params_named;

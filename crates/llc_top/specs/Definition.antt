@@ -1,10 +1,12 @@
 -- Functions of one block that return a constant or an argument, and how they are spelled
 -- (LangRef, "Functions" and "'ret' Instruction").
-use Rattle.std.specs.Prelude.{◌≡◌, ◌≢◌, ◌<◌, ◌≤◌, ℕ, ℤ, pos, negsuc, ◌≤ℤ◌, ◌==◌, IsTrue, ◌⊎◌, List, [], ◌∷◌, ◌++◌, length, codes, slice_index_or, map, if◌then◌else◌}
+use Rattle.std.specs.Prelude.{◌≡◌, ◌<◌, ◌≤◌, ℕ, ℤ, ◌==◌, IsTrue, ◌⊎◌, List, [], ◌∷◌, ◌++◌, length, codes, slice_index_or, map, if◌then◌else◌}
 use Rattle.std.specs.Fmt.{signed_decimal}
 use Rattle.std.specs.List.{join_by, flat_map, AllByRecursion, IsDistinct}
 use Rattle.std.specs.Str.{bytes_eq}
 pub use Rattle.cg_part.specs.Built.{is_name, is_name_byte}
+use Rattle.cg_part.specs.Program.{IsFree}
+use Rattle.rv_isa.specs.Encoding.{IsSigned12}
 use Rattle.rv_isa.specs.Lines.{text_of_lines}
 
 -- what a function returns: the argument at a place, counted from 0, or a constant
@@ -22,13 +24,11 @@ pub record Definition : Type 0 where
 -- a place among the parameters, or a number that fits the immediate of an `addi`
 abbrev pub IsReturned : List (List ℕ) → Returned → Type 0
 IsReturned params (argument i) = i < length params
-IsReturned params (constant z) = (negsuc 2047 ≤ℤ z) × (z ≤ℤ pos 2047)
+IsReturned params (constant z) = IsSigned12 z
 
 pub record IsDefinition (d : Definition) : Type 0 where
   pub named : IsTrue (is_name d.name)
-  -- the names of the start and of the host's functions are taken
-  pub not_start : d.name ≢ codes "_start"
-  pub not_host : (rest : List ℕ) → d.name ≢ codes "__host_" ++ rest
+  pub free : IsFree d.name
   pub sized : (d.bits ≡ 32) ⊎ (d.bits ≡ 64)
   pub few : length d.params ≤ 8
   pub params_named : AllByRecursion (λ p. IsTrue (is_name p)) d.params

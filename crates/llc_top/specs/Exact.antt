@@ -1,14 +1,18 @@
 -- What an answer says of a text that the source tells, and of what was written.
 use Rattle.std.specs.Prelude.{◌≡◌, ◌≢◌, ℕ, true, Option, Some, List, [], ◌∷◌}
 use Rattle.std.specs.Io.KnownBytes.{Appends}
-use Rattle.cg_part.specs.Allowed.{RunsAllowed, Allowed}
-use Rattle.cg_part.specs.Program.{program_bytes, program_count}
+use Rattle.cg_part.specs.Allowed.{RunsAllowed, Allowed, Assembles}
+use Rattle.cg_part.specs.Program.{part_object, program_bytes, program_count, program_objects}
 use Rattle.cg_part.specs.Resolving.{Resolves}
 use Rattle.cg_part.specs.Text.{output_of, part_text}
 use Rattle.ir_syntax.specs.declared.module.Module.{Module}
 use Rattle.ir_syntax.specs.declared.refusal.Refusal.{Refusal}
+use Rattle.obj_link.specs.Cause.{IsResolved}
+use Rattle.obj_link.specs.Names.{duplicates}
+use Rattle.rv_isa.specs.Lines.{ended}
 use Rattle.llc_top.specs.Main.{has_main}
 use Rattle.llc_top.specs.Outcome.{IsAccepted, IsFirstRefusal, TakesModule, program_run, run_steps}
+use Rattle.llc_top.specs.Stops.{stop_text}
 use Rattle.llc_top.specs.Words.{mode_of}
 use Rattle.llc_top.specs.declared.command.Mode.{Mode}
 use Rattle.llc_top.specs.declared.command.Mode.TheVariants as modes
@@ -27,19 +31,26 @@ pub record IsExact (words : List (List ℕ)) (left : Option (List ℕ)) (status 
   pub refusable : (mode : Mode) (bytes : List ℕ) (refusal : Refusal) → mode_of words ≡ Some mode → left ≡ Some bytes →
       IsFirstRefusal mode bytes refusal → status ≢ statuses.Done
 
--- The text of the source's module was written, and it resolves as the one part. If the module has a `main`,
--- its text assembles and links, and whatever the input and the steps, the image shows what the module allows.
+-- The text of the source's module was written, and it resolves as the one part. It assembles, and no name of
+-- its object is one of the runtime's or defined twice. If the module has a `main`, its text links, and whatever
+-- the input and the steps, the image shows what the module allows.
 pub record Compiled (left left' out out' : Option (List ℕ)) : Type 0 where
   pub compiled : Module
   pub takes : TakesModule left left' compiled
   pub wrote : Appends out out' (output_of compiled)
   pub resolves : Resolves compiled (part_text compiled ∷ [])
+  pub assembled : Assembles (part_text compiled) (part_object compiled)
+  pub differ : duplicates (program_objects compiled) ≡ []
   pub allowed : has_main compiled ≡ true → RunsAllowed compiled (part_text compiled ∷ [])
 
--- the source's module was run, the output of the machine was written, and the module allows it
-pub record Ran (left left' out out' : Option (List ℕ)) : Type 0 where
+-- The source's module was run: its text assembles and links, what the machine put out was written, how it ended
+-- was told, and the module allows both.
+pub record Ran (left left' out out' err err' : Option (List ℕ)) : Type 0 where
   pub compiled : Module
   pub takes : TakesModule left left' compiled
   pub has_a_main : has_main compiled ≡ true
+  pub assembled : Assembles (part_text compiled) (part_object compiled)
+  pub resolved : IsResolved (program_objects compiled)
   pub wrote : Appends out out' (program_run compiled).output
+  pub told : Appends err err' (ended (stop_text (program_run compiled).stop))
   pub allowed : Allowed compiled (program_bytes compiled) (program_count compiled) [] run_steps

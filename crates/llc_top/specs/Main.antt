@@ -2,14 +2,16 @@
 use Rattle.std.specs.Prelude.{◌&&◌, ◌==◌, Bool, true, false, Option, Some, None, List, [], ◌∷◌, bytes_eq, codes}
 use Rattle.std.specs.List.{list_any}
 use Rattle.cg_part.specs.Program.{function_name}
+use Rattle.cg_part.specs.Resolving.{has_body}
 use Rattle.ir_syntax.specs.declared.function.Function.{Function}
 use Rattle.ir_syntax.specs.declared.function.Param.{Param}
 use Rattle.ir_syntax.specs.declared.module.Module.{Module}
 use Rattle.ir_syntax.specs.declared.ty.TyText.{TyText}
 use Rattle.ir_syntax.specs.declared.ty.TyText.TheVariants as types
 
-abbrev pub is_named_main : Function → Bool
-is_named_main f = bytes_eq (function_name f) (codes "main")
+-- defined, by the name `main`
+abbrev pub is_defined_main : Function → Bool
+is_defined_main f = has_body f && bytes_eq (function_name f) (codes "main")
 
 abbrev pub gives_i32 : Option TyText → Bool
 gives_i32 None = false
@@ -25,8 +27,8 @@ fits_main f = gives_i32 f.result && takes_none f.params
 
 -- a `main` is defined
 abbrev pub defines_main : Module → Bool
-defines_main m = list_any is_named_main m.functions
+defines_main m = list_any is_defined_main m.functions
 
 -- a `main` is defined, of the type that a run can call
 abbrev pub has_main : Module → Bool
-has_main m = list_any (λ f. is_named_main f && fits_main f) m.functions
+has_main m = list_any (λ f. is_defined_main f && fits_main f) m.functions

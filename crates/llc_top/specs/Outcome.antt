@@ -1,7 +1,8 @@
 -- What a run of the program comes to, why, and what is due on its two sinks.
-use Rattle.std.specs.Prelude.{◌≡◌, ◌≢◌, ◌≤◌, ◌+◌, ℕ, true, false, Option, Some, None, List, [], ◌++◌, length, codes}
+use Rattle.std.specs.Prelude.{◌≡◌, ◌≢◌, ◌≤◌, ◌+◌, ◌⊎◌, ℕ, true, false, Option, Some, None, List, [], ◌++◌, length, codes}
 use Rattle.std.specs.Fmt.{decimal}
 use Rattle.std.specs.Io.KnownBytes.{Appends}
+use Rattle.cg_io.specs.Faults.{Rose}
 use Rattle.cg_io.specs.Told.{GivesAll, TakesExactly, AppendsPrefix}
 use Rattle.cg_part.specs.Program.{program_bytes}
 use Rattle.cg_part.specs.Text.{output_of}
@@ -104,14 +105,15 @@ TakesRefused mode left left' refusals.BadMain =
     (bytes : List ℕ) × GivesAll left left' bytes × IsFirstRefusal mode bytes refusals.BadMain
 TakesRefused mode left left' refusals.NoMemory = ⊥
 
--- why a run comes to this, by its words and by what its source had left before and has left now
-abbrev pub HasReason : List (List ℕ) → Option (List ℕ) → Option (List ℕ) → Outcome → Type 0
-HasReason words left left' words_refused = mode_of words ≡ None
-HasReason words left left' read_failed = mode_of words ≢ None
-HasReason words left left' (refuses refusal) =
+-- why a run comes to this, by its words and by what its source had left, and how often it had failed, before
+-- and now
+abbrev pub HasReason : List (List ℕ) → Option (List ℕ) → Option (List ℕ) → ℕ → ℕ → Outcome → Type 0
+HasReason words left left' faults faults' words_refused = mode_of words ≡ None
+HasReason words left left' faults faults' read_failed = (mode_of words ≢ None) × Rose faults faults'
+HasReason words left left' faults faults' (refuses refusal) =
     (mode : Mode) × (mode_of words ≡ Some mode) × TakesRefused mode left left' refusal
-HasReason words left left' (compiles m) = (mode_of words ≡ Some modes.Compile) × TakesModule left left' m
-HasReason words left left' (runs m) =
+HasReason words left left' faults faults' (compiles m) = (mode_of words ≡ Some modes.Compile) × TakesModule left left' m
+HasReason words left left' faults faults' (runs m) =
     (mode_of words ≡ Some modes.Run) × TakesModule left left' m × (has_main m ≡ true)
 
 -- the sinks got what is due
@@ -119,10 +121,11 @@ pub record Tells (outcome : Outcome) (out out' err err' : Option (List ℕ)) : T
   pub results : Appends out out' (out_due outcome)
   pub errors : Appends err err' (err_due outcome)
 
--- each sink got a first part of what is due on it
-pub record TellsPart (outcome : Outcome) (out out' err err' : Option (List ℕ)) : Type 0 where
-  pub results : AppendsPrefix out out' (out_due outcome)
-  pub errors : AppendsPrefix err err' (err_due outcome)
+-- A first part of what is due was told. The results come first: where they were cut off, no error is told.
+abbrev pub TellsPart : Outcome → Option (List ℕ) → Option (List ℕ) → Option (List ℕ) → Option (List ℕ) → Type 0
+TellsPart outcome out out' err err' =
+    (AppendsPrefix out out' (out_due outcome) × Appends err err' [])
+    ⊎ (Appends out out' (out_due outcome) × AppendsPrefix err err' (err_due outcome))
 
 -- a run answers with the status of some outcome that has its reason, and tells it
 abbrev pub Finishes : (Outcome → Type 0) → Status → Option (List ℕ) → Option (List ℕ) → Option (List ℕ) → Option (List ℕ) → Type 0

@@ -6,7 +6,7 @@ use Rattle.std.specs.Fmt.{signed_decimal}
 use Rattle.std.specs.List.{list_any}
 use Rattle.std.specs.Str.{bytes_eq}
 use Rattle.std.specs.Str.Parse.{signed_digits_value}
-use Rattle.rv_isa.specs.Symbol.{is_letter}
+use Rattle.cg_part.specs.Built.{starts_name}
 use Rattle.ir_syntax.specs.declared.function.Function.{Function}
 use Rattle.ir_syntax.specs.declared.function.Param.{Param}
 use Rattle.ir_syntax.specs.declared.function.Linkage.TheVariants.{External}
@@ -45,7 +45,7 @@ name_len (b ∷ bytes) = if is_name_byte b then suc (name_len bytes) else 0
 -- whether a name begins here
 abbrev pub begins_name : List ℕ → Bool
 begins_name [] = false
-begins_name (b ∷ bytes) = is_letter b || b == 95
+begins_name (b ∷ bytes) = starts_name b
 
 -- a name, and what stands after it
 unfoldable pub name_at : List ℕ → Option (List ℕ × List ℕ)

@@ -1,5 +1,5 @@
 //! Answers that tell a line on the sink for errors.
-ghost use Rattle.std.specs.Prelude.{◌≡◌, ◌⊎◌};
+ghost use Rattle.std.specs.Prelude.{◌≡◌, ◌≢◌, ◌⊎◌};
 ghost use Rattle.cg_io.specs.Faults.{Rose};
 ghost use Rattle.llc_top.specs.Partial.{Told, ToldRefusal};
 
@@ -12,6 +12,7 @@ use ir_syntax::Refusal;
 pub fn answer_line<E: Sink>(err: &mut E, line: &[u8], due: Status) -> Status
     ensures told { Told result due line.now (E.written err.old) (E.written err.new) }
     ensures fault { (result ≡ due) ⊎ Rose (E.faults err.old) (E.faults err.new) }
+    ensures kept { (result ≡ Status.WriteFault) ⊎ (E.faults err.new ≡ E.faults err.old) }
 {
     match write_all(err, line) {
         Ok(()) => due,
@@ -21,8 +22,10 @@ pub fn answer_line<E: Sink>(err: &mut E, line: &[u8], due: Status) -> Status
 
 /// Tells a refusal, and answers `Refused`, or that the write failed.
 pub fn answer_refusal<E: Sink>(err: &mut E, refusal: Refusal) -> Status
+    requires { refusal ≢ Refusal.NoMemory }
     ensures told { ToldRefusal refusal result (E.written err.old) (E.written err.new) }
     ensures fault { result ≡ Status.WriteFault → Rose (E.faults err.old) (E.faults err.new) }
+    ensures kept { (result ≡ Status.WriteFault) ⊎ (E.faults err.new ≡ E.faults err.old) }
 {
     match tell_refusal(err, refusal) {
         Ok(()) => Status::Refused,

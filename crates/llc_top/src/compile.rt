@@ -1,5 +1,5 @@
 //! A module, compiled.
-ghost use Rattle.std.specs.Prelude.{◌≡◌, IfOk};
+ghost use Rattle.std.specs.Prelude.{◌≡◌, ◌⊎◌, IfOk};
 ghost use Rattle.std.specs.Io.KnownBytes.{Appends};
 ghost use Rattle.cg_io.specs.Faults.{Rose};
 ghost use Rattle.cg_part.specs.Built.{IsBuilt};
@@ -17,6 +17,7 @@ pub fn write_output<O: Sink>(alloc: Global, m: &Module, out: &mut O) -> Status
     requires { IsBuilt m.now }
     ensures written { Written m.now result (O.written out.old) (O.written out.new) }
     ensures fault { result ≡ Status.WriteFault → Rose (O.faults out.old) (O.faults out.new) }
+    ensures kept { (result ≡ Status.WriteFault) ⊎ (O.faults out.new ≡ O.faults out.old) }
 {
     let Ok(output) = output_text(alloc, m) else {
         return Status::NoMemory;

@@ -25,6 +25,8 @@ pub fn execute<O: Sink, E: Sink>(alloc: Global, m: &Module, out: &mut O, err: &m
         (E.written err.old) (E.written err.new) }
     ensures fault { result ≡ Status.WriteFault →
         Rose (O.faults out.old) (O.faults out.new) ⊎ Rose (E.faults err.old) (E.faults err.new) }
+    ensures kept_out { (result ≡ Status.WriteFault) ⊎ (O.faults out.new ≡ O.faults out.old) }
+    ensures kept_err { (result ≡ Status.WriteFault) ⊎ (E.faults err.new ≡ E.faults err.old) }
 {
     let Ok(image) = program_of(alloc, m) else {
         return Status::NoMemory;

@@ -1,8 +1,9 @@
 //! The top call.
-ghost use Rattle.std.specs.Prelude.{◌≡◌, ◌⊎◌, Some, None, map, string_bytes};
+ghost use Rattle.std.specs.Prelude.{◌≡◌, ◌⊎◌, ◌+◌, Some, None, map, string_bytes};
 ghost use Rattle.cg_io.specs.Faults.{Rose};
+ghost use Rattle.cg_io.specs.Told.{TakesAtMost};
 ghost use Rattle.llc_top.specs.Exact.{IsExact, Compiled, Ran};
-ghost use Rattle.llc_top.specs.Outcome.{Answers, HasReason};
+ghost use Rattle.llc_top.specs.Outcome.{Answers, HasReason, text_limit};
 ghost use Rattle.llc_top.specs.Words.{mode_of};
 ghost use Rattle.llc_top.specs.declared.command.Mode.TheVariants.{Compile, Run};
 
@@ -32,7 +33,8 @@ pub fn run_llc<S: Source, O: Sink, E: Sink>(
 ) -> Status
     // What came of it, why, and what the sinks got; after a write fault a first part of what was due.
     ensures answer { Answers
-        (HasReason (map (λ word. string_bytes word) words.now) (S.left src.old) (S.left src.new))
+        (HasReason (map (λ word. string_bytes word) words.now) (S.left src.old) (S.left src.new)
+        (S.faults src.old) (S.faults src.new))
         result (O.written out.old) (O.written out.new) (E.written err.old) (E.written err.new) }
 
     // Of a source that tells its bytes, an accepted text is never refused, and one with a first
@@ -49,16 +51,29 @@ pub fn run_llc<S: Source, O: Sink, E: Sink>(
     ensures write_fault { result ≡ Status.WriteFault →
         Rose (O.faults out.old) (O.faults out.new) ⊎ Rose (E.faults err.old) (E.faults err.new) }
 
+    // A read or a write that fails ends the run.
+    ensures kept_src { (result ≡ Status.ReadFault) ⊎ (result ≡ Status.WriteFault) ⊎
+        (S.faults src.new ≡ S.faults src.old) }
+    ensures kept_out { (result ≡ Status.WriteFault) ⊎ (O.faults out.new ≡ O.faults out.old) }
+    ensures kept_err { (result ≡ Status.WriteFault) ⊎ (E.faults err.new ≡ E.faults err.old) }
+
+    // Nothing beyond one byte more than a module may have is read, and only a module that is compiled or
+    // run comes to `out`.
+    ensures most { TakesAtMost (text_limit + 1) (S.left src.old) (S.left src.new) }
+    ensures untouched { (result ≡ Status.Done) ⊎ (result ≡ Status.NoMemory) ⊎ (result ≡ Status.WriteFault) ⊎
+        (out.new ≡ out.old) }
+
     // In the text that was written each symbol of the module stands once and none is missing; and its
     // linked image, on any input and for any number of steps, shows what the module's meaning allows.
     ensures compiled { result ≡ Status.Done →
         mode_of (map (λ word. string_bytes word) words.now) ≡ Some Compile →
         Compiled (S.left src.old) (S.left src.new) (O.written out.old) (O.written out.new) }
 
-    // What the machine showed is what the module's meaning allows.
+    // What the machine showed is what the module's meaning allows, and how it ended is told.
     ensures ran { result ≡ Status.Done →
         mode_of (map (λ word. string_bytes word) words.now) ≡ Some Run →
-        Ran (S.left src.old) (S.left src.new) (O.written out.old) (O.written out.new) }
+        Ran (S.left src.old) (S.left src.new) (O.written out.old) (O.written out.new)
+        (E.written err.old) (E.written err.new) }
 {
     run_command(alloc, words, src, out, err)
 }
@@ -72,7 +87,8 @@ fn run_command<S: Source, O: Sink, E: Sink>(
     err: &mut E,
 ) -> Status
     ensures answer { Answers
-        (HasReason (map (λ word. string_bytes word) words.now) (S.left src.old) (S.left src.new))
+        (HasReason (map (λ word. string_bytes word) words.now) (S.left src.old) (S.left src.new)
+        (S.faults src.old) (S.faults src.new))
         result (O.written out.old) (O.written out.new) (E.written err.old) (E.written err.new) }
     ensures words { mode_of (map (λ word. string_bytes word) words.now) ≡ None →
         (result ≡ Status.Words) ⊎ (result ≡ Status.WriteFault) }
@@ -80,6 +96,13 @@ fn run_command<S: Source, O: Sink, E: Sink>(
     ensures read_fault { result ≡ Status.ReadFault → Rose (S.faults src.old) (S.faults src.new) }
     ensures write_fault { result ≡ Status.WriteFault →
         Rose (O.faults out.old) (O.faults out.new) ⊎ Rose (E.faults err.old) (E.faults err.new) }
+    ensures kept_src { (result ≡ Status.ReadFault) ⊎ (result ≡ Status.WriteFault) ⊎
+        (S.faults src.new ≡ S.faults src.old) }
+    ensures kept_out { (result ≡ Status.WriteFault) ⊎ (O.faults out.new ≡ O.faults out.old) }
+    ensures kept_err { (result ≡ Status.WriteFault) ⊎ (E.faults err.new ≡ E.faults err.old) }
+    ensures most { TakesAtMost (text_limit + 1) (S.left src.old) (S.left src.new) }
+    ensures untouched { (result ≡ Status.Done) ⊎ (result ≡ Status.NoMemory) ⊎ (result ≡ Status.WriteFault) ⊎
+        (out.new ≡ out.old) }
 {
     let Some(mode) = mode_in(words) else {
         return answer_line(err, b"llc: words\n", Status::Words);

@@ -29,6 +29,10 @@ pub fn serve_text<O: Sink, E: Sink>(
         (O.written out.old) (O.written out.new) (E.written err.old) (E.written err.new) }
     ensures fault { result ≡ Status.WriteFault →
         Rose (O.faults out.old) (O.faults out.new) ⊎ Rose (E.faults err.old) (E.faults err.new) }
+    ensures kept_out { (result ≡ Status.WriteFault) ⊎ (O.faults out.new ≡ O.faults out.old) }
+    ensures kept_err { (result ≡ Status.WriteFault) ⊎ (E.faults err.new ≡ E.faults err.old) }
+    ensures untouched { (result ≡ Status.Done) ⊎ (result ≡ Status.NoMemory) ⊎ (result ≡ Status.WriteFault) ⊎
+        (out.new ≡ out.old) }
 {
     match read_module(alloc, text) {
         Ok(m) => serve_module(alloc, mode, &m, out, err),
@@ -49,6 +53,10 @@ fn serve_module<O: Sink, E: Sink>(
         (O.written out.old) (O.written out.new) (E.written err.old) (E.written err.new) }
     ensures fault { result ≡ Status.WriteFault →
         Rose (O.faults out.old) (O.faults out.new) ⊎ Rose (E.faults err.old) (E.faults err.new) }
+    ensures kept_out { (result ≡ Status.WriteFault) ⊎ (O.faults out.new ≡ O.faults out.old) }
+    ensures kept_err { (result ≡ Status.WriteFault) ⊎ (E.faults err.new ≡ E.faults err.old) }
+    ensures untouched { (result ≡ Status.Done) ⊎ (result ≡ Status.NoMemory) ⊎ (result ≡ Status.WriteFault) ⊎
+        (out.new ≡ out.old) }
 {
     match mode {
         Mode::Compile => write_output(alloc, m, out),

@@ -1,6 +1,7 @@
 //! The function that a run begins with.
-ghost use Rattle.std.specs.Prelude.{◌≡◌};
-ghost use Rattle.llc_top.specs.Main.{is_named_main, gives_i32, takes_none, fits_main, defines_main, has_main};
+ghost use Rattle.std.specs.Prelude.{◌≡◌, bytes_eq, codes};
+ghost use Rattle.ir_syntax.specs.Names.{name_bytes};
+ghost use Rattle.llc_top.specs.Main.{is_defined_main, gives_i32, takes_none, fits_main, defines_main, has_main};
 
 use ir_syntax::{Function, Module, Name, Param, TyText};
 
@@ -25,9 +26,15 @@ pub fn has_a_main(m: &Module) -> bool
 }
 
 fn is_main(function: &Function) -> bool
-    ensures { result ≡ is_named_main function.now }
+    ensures { result ≡ is_defined_main function.now }
 {
-    match &function.name {
+    function.blocks.is_some() & is_called_main(&function.name)
+}
+
+fn is_called_main(name: &Name) -> bool
+    ensures { result ≡ bytes_eq (name_bytes name.now) (codes "main") }
+{
+    match name {
         Name::Named(name) => name.as_bytes() == b"main".as_slice(),
         Name::Unnamed(_) => false,
     }

@@ -1,5 +1,5 @@
 //! Lines on the sink for errors.
-ghost use Rattle.std.specs.Prelude.{◌≡◌, ◌++◌, decimal, OnOk, OnErr};
+ghost use Rattle.std.specs.Prelude.{◌≡◌, ◌≢◌, ◌++◌, decimal, OnOk, OnErr};
 ghost use Rattle.std.specs.Io.KnownBytes.{Appends};
 ghost use Rattle.cg_io.specs.Faults.{Rose};
 ghost use Rattle.cg_io.specs.Told.{AppendsPrefix};
@@ -12,18 +12,20 @@ use ir_syntax::Refusal;
 use itoa::Buffer;
 use rv_mach::{Stop, TrapKind};
 
-/// Tells a refusal: its number, its name and its fields.
+/// Tells a refusal: its number, its name and its fields. Of want of memory nothing is told.
 pub fn tell_refusal<E: Sink>(err: &mut E, refusal: Refusal) -> Result<(), WriteFault>
+    requires { refusal ≢ Refusal.NoMemory }
     ensures all { OnOk result (Appends (E.written err.old) (E.written err.new) (ended (refusal_text refusal))) }
     ensures prefix { AppendsPrefix (E.written err.old) (E.written err.new) (ended (refusal_text refusal)) }
     ensures fault { OnErr result (Rose (E.faults err.old) (E.faults err.new)) }
+    ensures kept { OnOk result (E.faults err.new ≡ E.faults err.old) }
 {
     match refusal {
         Refusal::TooLong { taken } => tell_number(err, b"llc: refused 1 TooLong ", taken),
         Refusal::NoMain => write_all(err, b"llc: refused 14 NoMain\n"),
         Refusal::BadMain => write_all(err, b"llc: refused 15 BadMain\n"),
         Refusal::NotYet { line } => tell_number(err, b"llc: refused 18 NotYet ", u64::from(line)),
-        Refusal::NoMemory => write_all(err, b"\n"),
+        Refusal::NoMemory => unreachable!(),
     }
 }
 
@@ -32,6 +34,7 @@ pub fn tell_stop<E: Sink>(err: &mut E, stop: Stop) -> Result<(), WriteFault>
     ensures all { OnOk result (Appends (E.written err.old) (E.written err.new) (ended (stop_text stop))) }
     ensures prefix { AppendsPrefix (E.written err.old) (E.written err.new) (ended (stop_text stop)) }
     ensures fault { OnErr result (Rose (E.faults err.old) (E.faults err.new)) }
+    ensures kept { OnOk result (E.faults err.new ≡ E.faults err.old) }
 {
     match stop {
         Stop::Exited(code) => tell_number(err, b"exit ", u64::from(code)),
@@ -58,6 +61,7 @@ fn tell_number<E: Sink>(err: &mut E, text: &[u8], number: u64) -> Result<(), Wri
     ensures all { OnOk result (Appends (E.written err.old) (E.written err.new) (ended (text.now ++ decimal number))) }
     ensures prefix { AppendsPrefix (E.written err.old) (E.written err.new) (ended (text.now ++ decimal number)) }
     ensures fault { OnErr result (Rose (E.faults err.old) (E.faults err.new)) }
+    ensures kept { OnOk result (E.faults err.new ≡ E.faults err.old) }
 {
     let mut digits = Buffer::new();
     write_all(err, text)?;

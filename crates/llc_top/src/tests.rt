@@ -105,41 +105,44 @@ fn texts_outside_the_built_set_are_refused_by_line(rt: HostRuntime) -> Result<()
     Ok(())
 }
 
+/// Modules, what `run` answers to each, and the line that tells why.
+const RUNS: [(&str, Status, &str); 7] = [
+    (
+        "define i32 @main() {\n  ret i32 -7\n}\n",
+        Status::Done,
+        "exit 4294967289\n",
+    ),
+    (
+        "define i32 @main() {\n  ret i32 0\n}\n",
+        Status::Done,
+        "exit 0\n",
+    ),
+    (
+        "define i64 @f(i64 %x) {\n  ret i64 %x\n}\ndefine i32 @main() {\n  ret i32 2047\n}\n",
+        Status::Done,
+        "exit 2047\n",
+    ),
+    (ARGUMENT, Status::Refused, "llc: refused 14 NoMain\n"),
+    (
+        "define i64 @main() {\n  ret i64 0\n}\n",
+        Status::Refused,
+        "llc: refused 15 BadMain\n",
+    ),
+    (
+        "define i32 @main(i32 %x) {\n  ret i32 0\n}\n",
+        Status::Refused,
+        "llc: refused 15 BadMain\n",
+    ),
+    (
+        "define i64 @main() {\n  ret i64 2048\n}\n",
+        Status::Refused,
+        "llc: refused 18 NotYet 2\n",
+    ),
+];
+
 #[test]
 fn a_main_is_run_to_its_exit(rt: HostRuntime) -> Result<(), Fail> {
-    for (text, status, err) in [
-        (
-            "define i32 @main() {\n  ret i32 -7\n}\n",
-            Status::Done,
-            "exit 4294967289\n",
-        ),
-        (
-            "define i32 @main() {\n  ret i32 0\n}\n",
-            Status::Done,
-            "exit 0\n",
-        ),
-        (
-            "define i64 @f(i64 %x) {\n  ret i64 %x\n}\ndefine i32 @main() {\n  ret i32 2047\n}\n",
-            Status::Done,
-            "exit 2047\n",
-        ),
-        (ARGUMENT, Status::Refused, "llc: refused 14 NoMain\n"),
-        (
-            "define i64 @main() {\n  ret i64 0\n}\n",
-            Status::Refused,
-            "llc: refused 15 BadMain\n",
-        ),
-        (
-            "define i32 @main(i32 %x) {\n  ret i32 0\n}\n",
-            Status::Refused,
-            "llc: refused 15 BadMain\n",
-        ),
-        (
-            "define i64 @main() {\n  ret i64 2048\n}\n",
-            Status::Refused,
-            "llc: refused 18 NotYet 2\n",
-        ),
-    ] {
+    for (text, status, err) in RUNS {
         let told = run_words(&rt, ["llc", "run"].as_slice(), text.as_bytes())?;
         assert_eq!(rt; told.status, status, "{text}");
         assert_eq!(rt; told.err.as_slice(), err.as_bytes(), "{text}");

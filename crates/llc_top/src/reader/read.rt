@@ -1,6 +1,7 @@
 //! A whole text.
 ghost use Rattle.std.specs.Prelude.{◌≡◌, ◌≤◌, ℕ, List, length, IfOk, IfErr};
 ghost use Rattle.ir_syntax.specs.declared.module.Module.{Module};
+ghost use Rattle.llc_top.specs.Outcome.{text_limit};
 ghost use Rattle.llc_top.specs.Reads.{IsOnly, IsRefusal, IsRefusedLine, Reads};
 
 use crate::reader::progress::{Progress, Stage};
@@ -12,7 +13,7 @@ use std::alloc::Global;
 
 /// Reads a line after the other; see [`read_module`].
 fn read(alloc: Global, text: &[u8]) -> Result<Module, ReadError>
-    requires { length text.now ≤ 16777216 }
+    requires { length text.now ≤ text_limit }
     ensures read { IfOk result (λ m. Reads text.now m) }
     ensures refused { IfErr result (λ e. IsRefusal text.now e) }
 {
@@ -57,7 +58,7 @@ fn read(alloc: Global, text: &[u8]) -> Result<Module, ReadError>
 /// `NotYet` names the first line such that the lines up to it begin no such text, or the last line
 /// where the text ends too soon; `NoMemory` says nothing of the text.
 pub(crate) fn read_module(alloc: Global, text: &[u8]) -> Result<Module, ReadError>
-    requires { length text.now ≤ 16777216 }
+    requires { length text.now ≤ text_limit }
     // What is read is the text's module.
     ensures reads { IfOk result (λ m. Reads text.now m) }
     // What is refused, and at which line.

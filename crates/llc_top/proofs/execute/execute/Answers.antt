@@ -1,7 +1,7 @@
-use Rattle.std.proofs.Common.{◌≡◌, ◌∙◌, [], ap, subst}
+use Rattle.std.proofs.Common.{◌≡◌, ◌∙◌, [], ap, inl, inr, subst}
 use Rattle.std.specs.Io.KnownBytes.{Appends}
 use Rattle.cg_io.specs.Told.{AppendsPrefix}
-use Rattle.cg_io.proofs.ToldLemmas.{AppendsPrefix-all, AppendsPrefix-none}
+use Rattle.std.proofs.KnownBytes.{Appends-nil}
 use Rattle.cg_part.specs.Program.{program_bytes}
 use Rattle.rv_isa.specs.Lines.{ended}
 use Rattle.rv_mach.specs.Run.{run_of}
@@ -19,10 +19,7 @@ program_of-requires-clause-main g c = main_is c.args.m.now c.requires.main
 pub returns-in_default-run-clause-executed : goal.returns-in_default-run-clause-executed
 returns-in_default-run-clause-executed g c =
     let is : c.in-Ok-load.machine ≡ start (program_bytes c.args.m.now) = c.in-Ok-load.ensures ∙ ap start c.in-Ok.ensures.bytes in
-    record {
-      results = cut_off_part [] run_steps _ _ (start (program_bytes c.args.m.now)) _ _ is c.in_default-run.ensures.cut_off;
-      errors = AppendsPrefix-none _ _;
-    }
+    inl (cut_off_part [] run_steps _ _ (start (program_bytes c.args.m.now)) _ _ is c.in_default-run.ensures.cut_off, Appends-nil _)
 
 pub returns-in-Ok-tell_stop-clause-executed : goal.returns-in-Ok-tell_stop-clause-executed
 returns-in-Ok-tell_stop-clause-executed g c =
@@ -41,10 +38,9 @@ returns-clause-executed g c =
     let is : c.in-Ok-load.machine ≡ start (program_bytes c.args.m.now) = c.in-Ok-load.ensures ∙ ap start c.in-Ok.ensures.bytes in
     let stop : c.in-Ok-run.stop ≡ (program_run c.args.m.now).stop =
     c.in-Ok-run.ensures.stop ∙ ap (λ (m : State). (run_of [] run_steps m).machine.stop) is in
-    record {
-      results = AppendsPrefix-all _ _ _
-          (subst (λ (m : State). Appends (g.O.Sink.written c.args.out.now) (g.O.Sink.written c.run.new.out) (run_of [] run_steps m).output) is
-          c.in-Ok-run.ensures.output);
-      errors = subst (λ (s : Stop). AppendsPrefix (g.E.Sink.written c.args.err.now) (g.E.Sink.written c.tell_stop.new.err) (ended (stop_text s))) stop
-          c.tell_stop.ensures.prefix;
-    }
+    inr (
+      subst (λ (m : State). Appends (g.O.Sink.written c.args.out.now) (g.O.Sink.written c.run.new.out) (run_of [] run_steps m).output) is
+          c.in-Ok-run.ensures.output,
+      subst (λ (s : Stop). AppendsPrefix (g.E.Sink.written c.args.err.now) (g.E.Sink.written c.tell_stop.new.err) (ended (stop_text s))) stop
+          c.tell_stop.ensures.prefix,
+    )

@@ -1,14 +1,15 @@
-use Rattle.std.proofs.Common.{◌≡◌, ◌∙◌, ℕ, String, Global, map, sym, string_bytes, Some, None, subst}
+use Rattle.std.proofs.Common.{◌≡◌, ◌∙◌, ap, Err, ℕ, String, Global, map, sym, string_bytes, Some, None, subst}
 use Rattle.ir_syntax.specs.declared.refusal.Refusal.TheVariants as refusals
 use Rattle.llc_top.specs.Outcome.{HasReason}
-use Rattle.llc_top.specs.Partial.{ToldRefusal}
-use Rattle.llc_top.proofs.Outcomes.{fault_answer, refusal_answer}
+use Rattle.llc_top.specs.Partial.{HasTextReason, ToldRefusal}
+use Rattle.llc_top.proofs.Outcomes.{answer-weaker, fault_answer, refusal_answer, whole_reason}
 use Rattle.llc_top.proofs.run.run_command.Goals as goal
 
 pub returns-in-Err-TooLong-clause-answer : goal.returns-in-Err-TooLong-clause-answer
 returns-in-Err-TooLong-clause-answer g c =
     refusal_answer
-    (HasReason (map (λ (word : String Global). string_bytes word) c.args.words.now) (g.S.Source.left c.args.src.now) (g.S.Source.left c.read_all.new.src))
+    (HasReason (map (λ (word : String Global). string_bytes word) c.args.words.now) (g.S.Source.left c.args.src.now) (g.S.Source.left c.read_all.new.src)
+    (g.S.Source.faults c.args.src.now) (g.S.Source.faults c.read_all.new.src))
     _ _ _ (refusals.TooLong c.in-Err-TooLong.taken) c.answer_refusal.result
     (c.in-Some.mode, sym c.in-Some.ensures, rw c.in-Err-TooLong.field-0-is at c.in-Err-TooLong.ensures.early)
     (subst
@@ -18,6 +19,17 @@ returns-in-Err-TooLong-clause-answer g c =
 pub returns-in-Err-Fault-clause-answer : goal.returns-in-Err-Fault-clause-answer
 returns-in-Err-Fault-clause-answer g c =
     fault_answer
-    (HasReason (map (λ (word : String Global). string_bytes word) c.args.words.now) (g.S.Source.left c.args.src.now) (g.S.Source.left c.read_all.new.src))
+    (HasReason (map (λ (word : String Global). string_bytes word) c.args.words.now) (g.S.Source.left c.args.src.now) (g.S.Source.left c.read_all.new.src)
+    (g.S.Source.faults c.args.src.now) (g.S.Source.faults c.read_all.new.src))
     _ _ _ c.answer_line-in-Err-Fault.result
-    (λ none. let asked : Some c.in-Some.mode ≡ None = c.in-Some.ensures ∙ none in cc) c.answer_line-in-Err-Fault.ensures.told
+    ((λ none. let asked : Some c.in-Some.mode ≡ None = c.in-Some.ensures ∙ none in cc), c.in-Err-Fault.ensures.fault (ap Err c.in-Err-Fault.field-0-is)) c.answer_line-in-Err-Fault.ensures.told
+
+pub returns-in-Ok-clause-answer : goal.returns-in-Ok-clause-answer
+returns-in-Ok-clause-answer g c =
+    answer-weaker (HasTextReason c.in-Some.mode c.deref.result.now)
+    (HasReason (map (λ (word : String Global). string_bytes word) c.args.words.now) (g.S.Source.left c.args.src.now) (g.S.Source.left c.read_all.new.src)
+    (g.S.Source.faults c.args.src.now) (g.S.Source.faults c.read_all.new.src))
+    c.serve_text.result _ _ _ _
+    (whole_reason (map (λ (word : String Global). string_bytes word) c.args.words.now) c.in-Some.mode _ _ _ _ c.deref.result.now (sym c.in-Some.ensures)
+    (rw (← c.deref.ensures.value) at c.in-Ok.ensures.all) (rw (← c.deref.ensures.value) at c.in-Ok.ensures.within))
+    c.serve_text.ensures.answer

@@ -1,4 +1,4 @@
-use Rattle.std.proofs.Common.{◌≡◌, ◌++◌, ◌∷◌, [], ◌∙◌, List, ℕ, decimal, subst}
+use Rattle.std.proofs.Common.{◌≡◌, ◌++◌, ◌∷◌, [], ◌∙◌, Option, List, ℕ, decimal, subst}
 use Rattle.std.specs.Io.KnownBytes.{Appends}
 use Rattle.std.proofs.KnownBytes.{Appends-trans}
 use Rattle.cg_io.specs.Told.{AppendsPrefix}
@@ -18,29 +18,26 @@ returns-in_err-write_all-2-clause-prefix g c =
     (subst (λ (due : List ℕ). AppendsPrefix (g.E.Sink.written c.write_all.new.sink) (g.E.Sink.written c.write_all-2.new.sink) due) digits
     c.write_all-2.ensures.prefix))
 
+-- what is told once the digits are
+number_told : (begin mid end : Option (List ℕ)) (text digits bytes : List ℕ) → Appends begin mid text → bytes ≡ digits →
+    Appends mid end bytes → Appends begin end (text ++ digits)
+number_told begin mid end text digits bytes first is rest =
+    Appends-trans begin mid end text digits first (subst (Appends mid end) is rest)
+
 pub returns-in_err-write_all-3-clause-prefix : goal.returns-in_err-write_all-3-clause-prefix
 returns-in_err-write_all-3-clause-prefix g c =
-    let digits : c.as_bytes.result.now ≡ decimal c.args.number = c.as_bytes.ensures.value ∙ c.format.ensures.text in
     AppendsPrefix-after _ _ _ (c.args.text.now ++ decimal c.args.number) (10 ∷ [])
-    (Appends-trans _ _ _ c.args.text.now (decimal c.args.number) c.in_ok-write_all.ensures.all
-    (subst (λ (due : List ℕ). Appends (g.E.Sink.written c.write_all.new.sink) (g.E.Sink.written c.write_all-2.new.sink) due) digits
-    c.in_ok-write_all-2.ensures.all))
+    (number_told _ _ _ _ _ _ c.in_ok-write_all.ensures.all (c.as_bytes.ensures.value ∙ c.format.ensures.text) c.in_ok-write_all-2.ensures.all)
     c.write_all-3.ensures.prefix
 
 pub returns-clause-all : goal.returns-clause-all
 returns-clause-all g c =
-    let digits : c.as_bytes.result.now ≡ decimal c.args.number = c.as_bytes.ensures.value ∙ c.format.ensures.text in
     Appends-trans _ _ _ (c.args.text.now ++ decimal c.args.number) (10 ∷ [])
-    (Appends-trans _ _ _ c.args.text.now (decimal c.args.number) c.in_ok-write_all.ensures.all
-    (subst (λ (due : List ℕ). Appends (g.E.Sink.written c.write_all.new.sink) (g.E.Sink.written c.write_all-2.new.sink) due) digits
-    c.in_ok-write_all-2.ensures.all))
+    (number_told _ _ _ _ _ _ c.in_ok-write_all.ensures.all (c.as_bytes.ensures.value ∙ c.format.ensures.text) c.in_ok-write_all-2.ensures.all)
     c.in_ok-write_all-3.ensures.all
 
 pub returns-clause-prefix : goal.returns-clause-prefix
 returns-clause-prefix g c =
-    let digits : c.as_bytes.result.now ≡ decimal c.args.number = c.as_bytes.ensures.value ∙ c.format.ensures.text in
     AppendsPrefix-after _ _ _ (c.args.text.now ++ decimal c.args.number) (10 ∷ [])
-    (Appends-trans _ _ _ c.args.text.now (decimal c.args.number) c.in_ok-write_all.ensures.all
-    (subst (λ (due : List ℕ). Appends (g.E.Sink.written c.write_all.new.sink) (g.E.Sink.written c.write_all-2.new.sink) due) digits
-    c.in_ok-write_all-2.ensures.all))
+    (number_told _ _ _ _ _ _ c.in_ok-write_all.ensures.all (c.as_bytes.ensures.value ∙ c.format.ensures.text) c.in_ok-write_all-2.ensures.all)
     c.write_all-3.ensures.prefix
