@@ -1,0 +1,17 @@
+//! The types of LLVM IR with their sizes and alignments.
+//!
+//! Sections are of the LLVM Language Reference Manual (LangRef). Sizes and alignments are in bytes.
+#![tactic(auto)]
+
+mod extent;
+mod measure;
+mod node;
+mod types;
+
+pub use extent::{Layout, TooBig};
+pub use measure::{alignments_are_powers_of_two, layout};
+pub use node::{TyId, TyNode};
+pub use types::{Ty, TyList};
+
+#[cfg(test)]
+mod tests;
