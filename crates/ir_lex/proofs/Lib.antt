@@ -1,0 +1,10 @@
+pub mod Decimals
+pub mod Keeping
+pub mod Longest
+pub mod Reaches
+pub mod ReachesKinds
+pub mod ReachesAll
+pub mod Scans
+pub mod Spans
+pub mod Spelled
+pub mod SpelledKinds

@@ -1,0 +1,33 @@
+-- Tokens in order, and one more.
+use Rattle.std.proofs.Common.{◌≡◌, ap, ℕ, ◌+◌, ◌<◌, ◌≤◌, List, [], ◌∷◌, ◌++◌, arith, drop, subst, sym, take}
+use Rattle.ir_lex.specs.Spelling.{Spells}
+use Rattle.ir_lex.specs.Splitting.{AreSpans, IsTokenOf, front_of, line_of}
+use Rattle.ir_lex.specs.declared.front.Front.{Front}
+use Rattle.ir_lex.specs.declared.kind.Token.{Token}
+use Rattle.ir_lex.proofs.Longest.{len_is_own}
+use Rattle.ir_lex.proofs.ReachesAll.{reaches}
+use Rattle.ir_lex.proofs.SpelledKinds.{spelled}
+
+pub spans_later : (from end later : ℕ) (tokens : List Token) → end ≤ later → AreSpans from end tokens → AreSpans from later tokens
+spans_later from end later [] h spans = omega (arith, h, spans)
+spans_later from end later (token ∷ tokens) h spans =
+    (spans.0, spans.1, spans_later (token.start + token.len) end later tokens h spans.2)
+
+pub spans_push : (from end : ℕ) (tokens : List Token) (token : Token) → end ≤ token.start → 0 < token.len → AreSpans from end tokens → AreSpans from (token.start + token.len) (tokens ++ token ∷ [])
+spans_push from end [] token h some spans = (omega (arith, h, spans), some, omega arith)
+spans_push from end (first ∷ tokens) token h some spans =
+    (spans.0, spans.1, spans_push (first.start + first.len) end tokens token h some spans.2)
+
+-- the longest token at a place is a token of the text
+pub token_is : (text : List ℕ) (at line : ℕ) (front : Front) → 0 < front.len → front ≡ front_of (drop at text) → line ≡ line_of text at → IsTokenOf text (record { kind = front.kind; start = at; len = front.len; line = line })
+token_is text at line front some is here = record {
+  spelled =
+      let some : 0 < (front_of (drop at text)).len = subst (λ f. 0 < f.len) is some in
+      let own = len_is_own (drop at text) some in
+      subst (λ f. Spells f.kind (take f.len (drop at text))) (sym is)
+      (subst (λ n. Spells (front_of (drop at text)).kind (take n (drop at text))) own
+      (spelled (front_of (drop at text)).kind (drop at text) (subst (λ n. 0 < n) (sym own) some)));
+  longest = λ kind first rest split spells.
+      omega (arith, reaches kind first rest spells, ap (λ f. f.len) is, ap (λ xs. (front_of xs).len) split);
+  line = here;
+}

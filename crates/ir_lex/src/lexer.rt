@@ -1,0 +1,63 @@
+//! A text as its tokens.
+ghost use Rattle.std.specs.Prelude.{◌≡◌, ◌≤◌, All, IfOk, length};
+ghost use Rattle.ir_lex.specs.Splitting.{Answers, AreSpans, IsTokenOf, line_feeds, tokens_of};
+
+use crate::kind::Token;
+use crate::list::{LexEnd, Tokens};
+use crate::piece::{Piece, piece_of};
+use crate::slice::rest_of;
+use std::alloc::Global;
+
+/// How many line feeds there are.
+fn line_feeds(bytes: &[u8]) -> u32
+    requires { length bytes.now ≤ 16777216 }
+    ensures value { result ≡ line_feeds bytes.now }
+    ensures within { result ≤ length bytes.now }
+{
+    let mut count: u32 = 0;
+    for byte in bytes {
+        if *byte == b'\n' {
+            count += 1;
+        }
+    }
+    count
+}
+
+/// The tokens of a text of at most 16,777,216 bytes.
+///
+/// # Errors
+///
+/// `Lex` with the line of the first place where no token begins, or a name that holds byte 0 after
+/// its escapes, or an integer literal outside -2^127 to 2^128 - 1. `NoMemory` where memory ran out.
+pub fn tokens(alloc: Global, bytes: &[u8]) -> Result<Tokens, LexEnd>
+    requires { length bytes.now ≤ 16777216 }
+    ensures value { Answers result (tokens_of bytes.now) }
+    ensures spans { IfOk result (AreSpans 0 (length bytes.now)) }
+    ensures each { IfOk result (All (IsTokenOf bytes.now)) }
+{
+    let mut tokens = Vec::new(alloc);
+    let mut at = 0;
+    let mut line: u32 = 1;
+    while at < bytes.len() {
+        let rest = rest_of(bytes, at);
+        let len = match piece_of(rest) {
+            Piece::Gap(len) => len,
+            Piece::Begins(front) => {
+                let token = Token {
+                    kind: front.kind,
+                    start: at as u32,
+                    len: front.len as u32,
+                    line,
+                };
+                match tokens.push(token) {
+                    Ok(()) => front.len,
+                    Err(_) => return Err(LexEnd::NoMemory),
+                }
+            }
+            Piece::Bad => return Err(LexEnd::Lex { line }),
+        };
+        line += line_feeds(&rest[..len]);
+        at += len;
+    }
+    Ok(Tokens::from_vec(tokens))
+}

@@ -1,0 +1,23 @@
+//! The tokens of textual LLVM IR (LLVM Language Reference Manual, "Identifiers", "Strings" and
+//! "Simple Constants").
+//!
+//! A text is tokens, parted by blanks, tabs, carriage returns, line feeds and comments. A comment
+//! goes from `;` to the end of its line. At each place the longest token is taken.
+#![tactic(auto)]
+
+mod class;
+mod escape;
+mod front;
+mod kind;
+mod length;
+mod lexer;
+mod list;
+mod literal;
+mod piece;
+mod slice;
+#[cfg(test)]
+mod tests;
+
+pub use kind::{Kind, Token};
+pub use lexer::tokens;
+pub use list::{LexEnd, Tokens};

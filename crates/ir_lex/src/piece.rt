@@ -1,0 +1,76 @@
+//! What stands at the front of a text: a gap or a token.
+ghost use Rattle.std.specs.Prelude.{◌≡◌, ◌≤◌, length};
+ghost use Rattle.ir_lex.specs.Splitting.{HasBytes, IsFront, begun, front_of, gap_len, is_refused, piece_len, piece_of};
+
+use crate::class::{Class, run_len};
+use crate::escape::holds_zero;
+use crate::front::{Front, front_of};
+use crate::kind::Kind;
+use crate::literal::is_in_range;
+use crate::slice::byte_at;
+
+/// What stands at the front of a text.
+#[derive(Clone, Copy)]
+pub(crate) enum Piece {
+    /// This many bytes part tokens.
+    Gap(usize),
+    /// A token begins.
+    Begins(Front),
+    /// No token begins, or one that is refused.
+    Bad,
+}
+
+/// How many bytes at the front part tokens.
+#[tactic(auto, unfolding(crate::specs::Splitting::gap_len))]
+fn gap_len(bytes: &[u8]) -> usize
+    ensures value { result ≡ gap_len bytes.now }
+    ensures within { result ≤ length bytes.now }
+{
+    match byte_at(bytes, 0) {
+        b' ' | b'\t' | b'\r' | b'\n' => 1,
+        b';' => run_len(bytes, Class::Comment),
+        _ => 0,
+    }
+}
+
+/// Whether a token is refused: an integer out of range, or a name that holds byte 0.
+#[tactic(auto, unfolding(crate::specs::Splitting::is_refused))]
+fn is_refused(kind: Kind, text: &[u8]) -> bool
+    ensures { result ≡ is_refused kind text.now }
+{
+    match kind {
+        Kind::Int => !is_in_range(text),
+        Kind::Global | Kind::Local | Kind::Label => holds_zero(text),
+        _ => false,
+    }
+}
+
+/// A token, unless there is none or it is refused.
+#[tactic(auto, unfolding(crate::specs::Splitting::begun))]
+fn begun(front: Front, bytes: &[u8]) -> Piece
+    requires { front.len ≤ length bytes.now }
+    ensures value { result ≡ begun front bytes.now }
+    ensures front { front ≡ front_of bytes.now → IsFront result bytes.now }
+    ensures within { piece_len result ≤ length bytes.now }
+    ensures some { HasBytes result }
+{
+    if front.len == 0 || is_refused(front.kind, &bytes[..front.len]) {
+        Piece::Bad
+    } else {
+        Piece::Begins(front)
+    }
+}
+
+/// What stands at the front.
+#[tactic(auto, unfolding(crate::specs::Splitting::piece_of))]
+pub(crate) fn piece_of(bytes: &[u8]) -> Piece
+    ensures value { result ≡ piece_of bytes.now }
+    ensures front { IsFront result bytes.now }
+    ensures within { piece_len result ≤ length bytes.now }
+    ensures some { HasBytes result }
+{
+    match gap_len(bytes) {
+        0 => begun(front_of(bytes), bytes),
+        len => Piece::Gap(len),
+    }
+}
