@@ -1,41 +1,23 @@
-//! Basic blocks and their terminators (LangRef, "Functions" and "Terminator Instructions").
-ghost use Rattle.std.specs.Prelude.{◌≡◌, length};
+//! Basic blocks (LangRef, "Functions").
+ghost use Rattle.std.specs.Prelude.{◌≡◌};
 
-use crate::literal::Literal;
+use crate::instr::Instrs;
 use crate::name::Name;
-use crate::ty::TyText;
+use crate::phi::Phis;
+use crate::term::Term;
 use std::marker::Model;
-
-/// A value as an operand (LangRef, "Constants" and "Identifiers").
-#[derive(Debug, Drop)]
-pub enum Operand {
-    /// A parameter or a result of this function.
-    Local(Name),
-    /// An integer literal.
-    Int(Literal),
-}
-
-/// What ends a block (LangRef, "Terminator Instructions").
-#[derive(Debug, Drop)]
-pub enum Term {
-    /// `ret` of a value.
-    Ret {
-        /// The line of `ret`.
-        line: u32,
-        /// The value's type.
-        ty: TyText,
-        /// The value that the function returns.
-        value: Operand,
-    },
-}
 
 /// A basic block.
 #[derive(Debug, Drop)]
 pub struct Block {
     /// The line of the block's first token.
     pub line: u32,
-    /// The block's label; a block without one is unnamed and has a number.
+    /// The block's label.
     pub label: Name,
+    /// Its phis.
+    pub phis: Phis,
+    /// Its instructions between the phis and the terminator.
+    pub instrs: Instrs,
     /// The block's terminator.
     pub term: Term,
 }
@@ -72,5 +54,12 @@ impl Blocks {
         ensures { result.now ≡ self.now }
     {
         self.blocks.as_slice()
+    }
+
+    /// The blocks in order, to be taken apart.
+    pub fn into_vec(self) -> Vec<Block>
+        ensures { result.items ≡ self }
+    {
+        self.blocks
     }
 }

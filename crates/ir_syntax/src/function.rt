@@ -1,24 +1,11 @@
 //! Functions and their parameters (LangRef, "Functions").
-ghost use Rattle.std.specs.Prelude.{◌≡◌, length};
+ghost use Rattle.std.specs.Prelude.{◌≡◌};
 
 use crate::block::Blocks;
+use crate::linkage::{Linkage, Visibility};
 use crate::name::Name;
 use crate::ty::TyText;
 use std::marker::Model;
-
-/// Who sees a name (LangRef, "Linkage Types").
-#[derive(Clone, Copy, Debug, PartialEq, Eq)]
-pub enum Linkage {
-    /// Every part of the program.
-    External,
-}
-
-/// How a name is seen from outside the linked image (LangRef, "Visibility Styles").
-#[derive(Clone, Copy, Debug, PartialEq, Eq)]
-pub enum Visibility {
-    /// As the object format has it by default.
-    Default,
-}
 
 /// A parameter of a function.
 #[derive(Debug, Drop)]
@@ -29,6 +16,8 @@ pub struct Param {
     pub ty: Option<TyText>,
     /// Its name.
     pub name: Name,
+    /// The line of the name's token; where none is written, that of the parameter.
+    pub name_line: u32,
 }
 
 /// The parameters of a function in order. Contracts see a list.
@@ -64,6 +53,13 @@ impl Params {
     {
         self.params.as_slice()
     }
+
+    /// The parameters in order, to be taken apart.
+    pub fn into_vec(self) -> Vec<Param>
+        ensures { result.items ≡ self }
+    {
+        self.params
+    }
 }
 
 /// A function, defined or declared.
@@ -73,6 +69,8 @@ pub struct Function {
     pub line: u32,
     /// The function's name.
     pub name: Name,
+    /// The line of the name's token.
+    pub name_line: u32,
     /// Who sees it.
     pub linkage: Linkage,
     /// How it is seen from outside.
@@ -117,5 +115,12 @@ impl Functions {
         ensures { result.now ≡ self.now }
     {
         self.functions.as_slice()
+    }
+
+    /// The functions in order, to be taken apart.
+    pub fn into_vec(self) -> Vec<Function>
+        ensures { result.items ≡ self }
+    {
+        self.functions
     }
 }

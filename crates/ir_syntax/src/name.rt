@@ -1,5 +1,5 @@
-//! Names of globals, functions, parameters, results and blocks (LangRef, "Identifiers").
-ghost use Rattle.std.specs.Prelude.{◌≡◌, ◌++◌, ◌∷◌, [], length, IsTrue, ◌↔◌};
+//! Names of globals, functions, parameters, results, blocks and types (LangRef, "Identifiers").
+ghost use Rattle.std.specs.Prelude.{◌≡◌};
 
 use std::marker::Model;
 
@@ -40,4 +40,15 @@ pub enum Name {
     Named(Identifier),
     /// Unnamed items are counted from 0, each kind in the order of the text.
     Unnamed(u32),
+    /// No name is written: such an item takes the next number. A module that was read whole has none.
+    Implicit,
+}
+
+/// A name where it is used: as an operand, a target, a callee, a base or a type.
+#[derive(Debug, Drop)]
+pub struct NameUse {
+    /// The line of the name's own token.
+    pub line: u32,
+    /// The name.
+    pub name: Name,
 }

@@ -1,12 +1,35 @@
 //! Why a text is refused.
+use crate::bytes::Bytes;
 
 /// Why a text is refused. The answer is the first of these that holds, in the order that they stand in here.
-#[derive(Clone, Copy, Debug, PartialEq, Eq)]
+#[derive(Debug, Drop)]
 pub enum Refusal {
     /// Number 1: more than 16,777,216 bytes were read.
     TooLong {
         /// How many bytes were read.
         taken: u64,
+    },
+    /// Number 2: no token begins at a place, a literal is out of range, or a name has a zero byte.
+    Lex {
+        /// The line of that place.
+        line: u32,
+    },
+    /// Number 3: the first bad token is a word of the language that is left out here.
+    Unsupported {
+        /// The line of the token.
+        line: u32,
+        /// The token as it stands in the text.
+        word: Bytes,
+    },
+    /// Number 4: the tokens up to this line begin no module.
+    Form {
+        /// The line of the first bad token; at the end of the text that of the last token.
+        line: u32,
+    },
+    /// Number 5: a name is used that is not defined, or a number is written that is not the next one.
+    Name {
+        /// The line of the name.
+        line: u32,
     },
     /// Number 18: the text is not one that is built yet.
     NotYet {

@@ -1,11 +1,139 @@
 //! Types as the text writes them (LangRef, "Type System").
+ghost use Rattle.std.specs.Prelude.{◌≡◌, IfOk};
+ghost use Rattle.ir_syntax.specs.Types.{array, int, list_of, named, ptr, struct, tree_of, trees_from, trees_in};
 
-/// A type as written.
-#[derive(Clone, Copy, Debug, PartialEq, Eq)]
-pub enum TyText {
-    /// An integer of this many bits (LangRef, "Integer Type").
-    Int {
-        /// 1 to 64.
-        bits: u8,
-    },
+use crate::name::NameUse;
+use crate::tree::{TypeTree, TypeTreeList};
+use std::alloc::{AllocError, Global};
+use std::marker::Model;
+
+/// A type as written. Contracts see a tree without boxes.
+#[derive(Debug, Drop)]
+pub struct TyText {
+    tree: TypeTree,
+}
+
+impl Model for TyText {
+    ghost use Rattle.ir_syntax.specs.Types.{TextTree, tree_of};
+    ghost use Rattle.ir_syntax.specs.TypeCodes.{tree_code};
+
+    ghost Value = { TextTree };
+
+    ghost coded = { tree_code };
+
+    ghost view = { λ t. tree_of t.tree };
+}
+
+impl TyText {
+    /// The integer type of this many bits.
+    pub fn int(bits: u8) -> TyText
+        ensures { result ≡ int bits }
+    {
+        TyText {
+            tree: TypeTree::Int { bits },
+        }
+    }
+
+    /// The type `ptr`.
+    pub fn ptr() -> TyText
+        ensures { result ≡ ptr }
+    {
+        TyText {
+            tree: TypeTree::Ptr,
+        }
+    }
+
+    /// The type of an array of this many elements of a type.
+    pub fn array(alloc: Global, len: u32, elem: TyText) -> Result<TyText, AllocError>
+        ensures { IfOk result (λ ty. ty ≡ array len elem) }
+    {
+        let TyText { tree } = elem;
+        let elem = Box::new(alloc, tree)?;
+        Ok(TyText {
+            tree: TypeTree::Array { len, elem },
+        })
+    }
+
+    /// The type of a struct with fields of these types.
+    #[tactic(auto, using(crate::proofs::Fields::is_from_its_list))]
+    pub fn structure(alloc: Global, packed: bool, fields: TypeTexts) -> Result<TyText, AllocError>
+        ensures { IfOk result (λ ty. ty ≡ struct packed (trees_from fields)) }
+    {
+        let fields = tree_list(alloc, fields)?;
+        Ok(TyText {
+            tree: TypeTree::Struct { packed, fields },
+        })
+    }
+
+    /// The type of a name.
+    pub fn named(name: NameUse) -> TyText
+        ensures { result ≡ named name }
+    {
+        TyText {
+            tree: TypeTree::Named(name),
+        }
+    }
+
+    /// The type as a tree, to be matched.
+    pub fn tree(&self) -> &TypeTree
+        ensures { tree_of result.now ≡ self.now }
+    {
+        &self.tree
+    }
+}
+
+/// These types as fields of a struct.
+fn tree_list(alloc: Global, types: TypeTexts) -> Result<TypeTreeList, AllocError>
+    ensures { IfOk result (λ list. list_of (trees_in list) ≡ types) }
+{
+    let mut types = types.into_vec();
+    let mut list = TypeTreeList::End;
+    while let Some(ty) = types.pop() {
+        let TyText { tree } = ty;
+        let head = Box::new(alloc, tree)?;
+        list = TypeTreeList::More(head, Box::new(alloc, list)?);
+    }
+    Ok(list)
+}
+
+/// Types in order. Contracts see a list.
+#[derive(Debug, Drop)]
+pub struct TypeTexts {
+    types: Vec<TyText>,
+}
+
+impl Model for TypeTexts {
+    ghost use Rattle.std.specs.Prelude.{List};
+    ghost use Rattle.std.specs.Coded.{coded_list};
+    ghost use Rattle.ir_syntax.specs.Types.{TextTree};
+    ghost use Rattle.ir_syntax.specs.TypeCodes.{tree_code};
+
+    ghost Value = { List TextTree };
+
+    ghost coded = { coded_list tree_code };
+
+    ghost view = { λ t. t.types.items };
+}
+
+impl TypeTexts {
+    /// These types, in their order.
+    pub fn from_vec(types: Vec<TyText>) -> TypeTexts
+        ensures { result ≡ types.items }
+    {
+        TypeTexts { types }
+    }
+
+    /// The types in order.
+    pub fn as_slice(&self) -> &[TyText]
+        ensures { result.now ≡ self.now }
+    {
+        self.types.as_slice()
+    }
+
+    /// The types in order, to be taken apart.
+    pub fn into_vec(self) -> Vec<TyText>
+        ensures { result.items ≡ self }
+    {
+        self.types
+    }
 }

@@ -1,0 +1,71 @@
+//! Global variables (LangRef, "Global Variables").
+ghost use Rattle.std.specs.Prelude.{◌≡◌};
+
+use crate::init::Init;
+use crate::linkage::{Linkage, Visibility};
+use crate::name::Name;
+use crate::ty::TyText;
+use std::marker::Model;
+
+/// A global variable, defined or declared.
+#[derive(Debug, Drop)]
+pub struct Global {
+    /// The line of its first token.
+    pub line: u32,
+    /// Its name.
+    pub name: Name,
+    /// Who sees it.
+    pub linkage: Linkage,
+    /// How it is seen from outside.
+    pub visibility: Visibility,
+    /// Whether nothing may be stored into it.
+    pub constant: bool,
+    /// The type of its value.
+    pub ty: TyText,
+    /// Its initialiser; none for a declaration.
+    pub init: Option<Init>,
+    /// Its alignment in bytes as written; none where none is.
+    pub align: Option<u64>,
+}
+
+/// The global variables of a module in the order of the text. Contracts see a list.
+#[derive(Debug, Drop)]
+pub struct Globals {
+    globals: Vec<Global>,
+}
+
+impl Model for Globals {
+    ghost use Rattle.std.specs.Prelude.{List};
+    ghost use Rattle.std.specs.Coded.{coded_list};
+    ghost use Rattle.ir_syntax.specs.declared.global.Global.{Global};
+    ghost use Rattle.ir_syntax.specs.contracts.global.Global as global;
+
+    ghost Value = { List Global };
+
+    ghost coded = { coded_list global.the_row.coded };
+
+    ghost view = { λ g. g.globals.items };
+}
+
+impl Globals {
+    /// These variables, in their order.
+    pub fn from_vec(globals: Vec<Global>) -> Globals
+        ensures { result ≡ globals.items }
+    {
+        Globals { globals }
+    }
+
+    /// The variables in order.
+    pub fn as_slice(&self) -> &[Global]
+        ensures { result.now ≡ self.now }
+    {
+        self.globals.as_slice()
+    }
+
+    /// The variables in order, to be taken apart.
+    pub fn into_vec(self) -> Vec<Global>
+        ensures { result.items ≡ self }
+    {
+        self.globals
+    }
+}

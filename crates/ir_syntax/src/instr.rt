@@ -1,0 +1,276 @@
+//! Instructions other than phis and terminators (LangRef, "Instruction Reference").
+ghost use Rattle.std.specs.Prelude.{◌≡◌};
+
+use crate::name::{Name, NameUse};
+use crate::operand::{Operand, TypedLiteral, TypedOperands};
+use crate::ty::{TyText, TypeTexts};
+use cg_num::{BinOp, Pred};
+use std::marker::Model;
+
+/// A conversion (LangRef, "Conversion Operations").
+#[derive(Clone, Copy, Debug, PartialEq, Eq)]
+pub enum CastOp {
+    /// `trunc`.
+    Trunc,
+    /// `zext`.
+    Zext,
+    /// `sext`.
+    Sext,
+    /// `ptrtoint`.
+    PtrToInt,
+    /// `inttoptr`.
+    IntToPtr,
+    /// `bitcast`.
+    BitCast,
+}
+
+/// An argument of a call.
+#[derive(Debug, Drop)]
+pub struct Arg {
+    /// Its type.
+    pub ty: TyText,
+    /// Its alignment in bytes as written; none where none is.
+    pub align: Option<u64>,
+    /// The argument.
+    pub value: Operand,
+}
+
+/// The arguments of a call in order. Contracts see a list.
+#[derive(Debug, Drop)]
+pub struct Args {
+    args: Vec<Arg>,
+}
+
+impl Model for Args {
+    ghost use Rattle.std.specs.Prelude.{List};
+    ghost use Rattle.std.specs.Coded.{coded_list};
+    ghost use Rattle.ir_syntax.specs.declared.instr.Arg.{Arg};
+    ghost use Rattle.ir_syntax.specs.contracts.instr.Arg as arg;
+
+    ghost Value = { List Arg };
+
+    ghost coded = { coded_list arg.the_row.coded };
+
+    ghost view = { λ a. a.args.items };
+}
+
+impl Args {
+    /// These arguments, in their order.
+    pub fn from_vec(args: Vec<Arg>) -> Args
+        ensures { result ≡ args.items }
+    {
+        Args { args }
+    }
+
+    /// The arguments in order.
+    pub fn as_slice(&self) -> &[Arg]
+        ensures { result.now ≡ self.now }
+    {
+        self.args.as_slice()
+    }
+
+    /// The arguments in order, to be taken apart.
+    pub fn into_vec(self) -> Vec<Arg>
+        ensures { result.items ≡ self }
+    {
+        self.args
+    }
+}
+
+/// What an instruction does, with its parts in the order in which the text has them.
+#[derive(Debug, Drop)]
+pub enum Op {
+    /// `add`, `sub`, `mul` or `shl`.
+    Wrapping {
+        /// Which of them.
+        op: BinOp,
+        /// Whether it says `nuw`.
+        nuw: bool,
+        /// Whether it says `nsw`.
+        nsw: bool,
+        /// The type of the operands.
+        ty: TyText,
+        /// The first operand.
+        left: Operand,
+        /// The second operand.
+        right: Operand,
+    },
+    /// `udiv`, `sdiv`, `lshr` or `ashr`.
+    Exact {
+        /// Which of them.
+        op: BinOp,
+        /// Whether it says `exact`.
+        exact: bool,
+        /// The type of the operands.
+        ty: TyText,
+        /// The first operand.
+        left: Operand,
+        /// The second operand.
+        right: Operand,
+    },
+    /// `urem`, `srem`, `and`, `or` or `xor`.
+    Bitwise {
+        /// Which of them.
+        op: BinOp,
+        /// The type of the operands.
+        ty: TyText,
+        /// The first operand.
+        left: Operand,
+        /// The second operand.
+        right: Operand,
+    },
+    /// `icmp`.
+    Icmp {
+        /// The condition.
+        pred: Pred,
+        /// The type of the operands.
+        ty: TyText,
+        /// The first operand.
+        left: Operand,
+        /// The second operand.
+        right: Operand,
+    },
+    /// `select`.
+    Select {
+        /// The type of the condition.
+        condition_ty: TyText,
+        /// The condition.
+        condition: Operand,
+        /// The type of the value where the condition is true.
+        then_ty: TyText,
+        /// That value.
+        then_value: Operand,
+        /// The type of the value where it is false.
+        else_ty: TyText,
+        /// That value.
+        else_value: Operand,
+    },
+    /// A conversion.
+    Cast {
+        /// Which one.
+        op: CastOp,
+        /// The type of the operand.
+        from: TyText,
+        /// The operand.
+        value: Operand,
+        /// The type of the result.
+        to: TyText,
+    },
+    /// `freeze`.
+    Freeze {
+        /// The type of the operand.
+        ty: TyText,
+        /// The operand.
+        value: Operand,
+    },
+    /// `getelementptr`.
+    Gep {
+        /// Whether it says `inbounds`.
+        inbounds: bool,
+        /// The type in which the indices go.
+        ty: TyText,
+        /// The type of the address.
+        base_ty: TyText,
+        /// The address.
+        base: Operand,
+        /// The indices.
+        indices: TypedOperands,
+    },
+    /// `load`.
+    Load {
+        /// The type of what is loaded.
+        ty: TyText,
+        /// The type of the address.
+        address_ty: TyText,
+        /// The address.
+        address: Operand,
+        /// The alignment in bytes as written; none where none is.
+        align: Option<u64>,
+    },
+    /// `store`.
+    Store {
+        /// The type of what is stored.
+        ty: TyText,
+        /// What is stored.
+        value: Operand,
+        /// The type of the address.
+        address_ty: TyText,
+        /// The address.
+        address: Operand,
+        /// The alignment in bytes as written; none where none is.
+        align: Option<u64>,
+    },
+    /// `alloca`.
+    Alloca {
+        /// The type of an element.
+        ty: TyText,
+        /// The number of elements; none for one.
+        count: Option<TypedLiteral>,
+        /// The alignment in bytes as written; none where none is.
+        align: Option<u64>,
+    },
+    /// `call`.
+    Call {
+        /// The type of what is returned; none for `void`.
+        result: Option<TyText>,
+        /// The types of the parameters; none where they are not written.
+        params: Option<TypeTexts>,
+        /// The function that is called.
+        callee: NameUse,
+        /// The arguments.
+        args: Args,
+    },
+}
+
+/// An instruction.
+#[derive(Debug, Drop)]
+pub struct Instr {
+    /// The line of the instruction's first token.
+    pub line: u32,
+    /// The name of its result; none for a `store`, or a call of `void`, without a written name.
+    pub result: Option<Name>,
+    /// What it does.
+    pub op: Op,
+}
+
+/// The instructions of a block in order, between its phis and its terminator. Contracts see a list.
+#[derive(Debug, Drop)]
+pub struct Instrs {
+    instrs: Vec<Instr>,
+}
+
+impl Model for Instrs {
+    ghost use Rattle.std.specs.Prelude.{List};
+    ghost use Rattle.std.specs.Coded.{coded_list};
+    ghost use Rattle.ir_syntax.specs.declared.instr.Instr.{Instr};
+    ghost use Rattle.ir_syntax.specs.contracts.instr.Instr as instr;
+
+    ghost Value = { List Instr };
+
+    ghost coded = { coded_list instr.the_row.coded };
+
+    ghost view = { λ i. i.instrs.items };
+}
+
+impl Instrs {
+    /// These instructions, in their order.
+    pub fn from_vec(instrs: Vec<Instr>) -> Instrs
+        ensures { result ≡ instrs.items }
+    {
+        Instrs { instrs }
+    }
+
+    /// The instructions in order.
+    pub fn as_slice(&self) -> &[Instr]
+        ensures { result.now ≡ self.now }
+    {
+        self.instrs.as_slice()
+    }
+
+    /// The instructions in order, to be taken apart.
+    pub fn into_vec(self) -> Vec<Instr>
+        ensures { result.items ≡ self }
+    {
+        self.instrs
+    }
+}

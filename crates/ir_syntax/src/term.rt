@@ -1,0 +1,118 @@
+//! Terminators of blocks (LangRef, "Terminator Instructions").
+ghost use Rattle.std.specs.Prelude.{◌≡◌};
+
+use crate::literal::Literal;
+use crate::name::NameUse;
+use crate::operand::Operand;
+use crate::ty::TyText;
+use std::marker::Model;
+
+/// A case of a `switch`.
+#[derive(Debug, Drop)]
+pub struct Case {
+    /// The type of its value.
+    pub ty: TyText,
+    /// Its value.
+    pub value: Literal,
+    /// The block that is next at this value.
+    pub target: NameUse,
+}
+
+/// The cases of a `switch` in order. Contracts see a list.
+#[derive(Debug, Drop)]
+pub struct Cases {
+    cases: Vec<Case>,
+}
+
+impl Model for Cases {
+    ghost use Rattle.std.specs.Prelude.{List};
+    ghost use Rattle.std.specs.Coded.{coded_list};
+    ghost use Rattle.ir_syntax.specs.declared.term.Case.{Case};
+    ghost use Rattle.ir_syntax.specs.contracts.term.Case as case;
+
+    ghost Value = { List Case };
+
+    ghost coded = { coded_list case.the_row.coded };
+
+    ghost view = { λ c. c.cases.items };
+}
+
+impl Cases {
+    /// These cases, in their order.
+    pub fn from_vec(cases: Vec<Case>) -> Cases
+        ensures { result ≡ cases.items }
+    {
+        Cases { cases }
+    }
+
+    /// The cases in order.
+    pub fn as_slice(&self) -> &[Case]
+        ensures { result.now ≡ self.now }
+    {
+        self.cases.as_slice()
+    }
+
+    /// The cases in order, to be taken apart.
+    pub fn into_vec(self) -> Vec<Case>
+        ensures { result.items ≡ self }
+    {
+        self.cases
+    }
+}
+
+/// What ends a block.
+#[derive(Debug, Drop)]
+pub enum Term {
+    /// `ret void`.
+    ReturnVoid {
+        /// The line of `ret`.
+        line: u32,
+    },
+    /// `ret` of a value.
+    Ret {
+        /// The line of `ret`.
+        line: u32,
+        /// The value's type.
+        ty: TyText,
+        /// The value that the function returns.
+        value: Operand,
+    },
+    /// `br` to one block.
+    Br {
+        /// The line of `br`.
+        line: u32,
+        /// The next block.
+        target: NameUse,
+    },
+    /// `br` on a condition.
+    CondBr {
+        /// The line of `br`.
+        line: u32,
+        /// The type of the condition.
+        ty: TyText,
+        /// The condition.
+        condition: Operand,
+        /// The next block where it is true.
+        then_target: NameUse,
+        /// The next block where it is false.
+        else_target: NameUse,
+    },
+    /// `switch`.
+    Switch {
+        /// The line of `switch`.
+        line: u32,
+        /// The type of the value.
+        ty: TyText,
+        /// The value.
+        value: Operand,
+        /// The next block where no case has the value.
+        default: NameUse,
+        /// The cases.
+        cases: Cases,
+    },
+    /// `unreachable`.
+    Unreachable {
+        /// The line of `unreachable`.
+        line: u32,
+    },
+}

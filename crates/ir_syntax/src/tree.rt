@@ -1,0 +1,53 @@
+//! Types as trees of what the text writes (LangRef, "Type System").
+use crate::name::NameUse;
+
+/// A type as written, each part in a box. [`TyText`](crate::TyText) is what contracts see as one value.
+#[cycle(tree)]
+#[derive(Debug, Drop)]
+pub enum TypeTree {
+    /// An integer type (LangRef, "Integer Type").
+    Int {
+        /// The width in bits, from 1 on.
+        bits: u8,
+    },
+    /// The type `ptr` (LangRef, "Pointer Type").
+    Ptr,
+    /// An array type (LangRef, "Array Type").
+    Array {
+        /// The number of elements.
+        len: u32,
+        /// The type of each element.
+        elem: Box<TypeTree>,
+    },
+    /// A struct type without a name (LangRef, "Structure Type").
+    Struct {
+        /// Whether its fields follow each other without padding.
+        packed: bool,
+        /// The types of its fields in order.
+        fields: TypeTreeList,
+    },
+    /// A type by its name.
+    Named(NameUse),
+}
+
+/// Types in order. A list may be long, so it is built, walked and dropped by loops.
+#[cycle(tree)]
+#[derive(Debug)]
+pub enum TypeTreeList {
+    /// No more types.
+    End,
+    /// A type and the types behind it.
+    More(Box<TypeTree>, Box<TypeTreeList>),
+}
+
+impl Drop for TypeTreeList {
+    #[cycle(dropping_types)]
+    fn drop(mut self) {
+        loop {
+            match self {
+                TypeTreeList::End => return,
+                TypeTreeList::More(_, tail) => self = Box::into_inner(tail),
+            }
+        }
+    }
+}

@@ -1,0 +1,59 @@
+//! Named types (LangRef, "Structure Type").
+ghost use Rattle.std.specs.Prelude.{◌≡◌};
+
+use crate::name::Name;
+use crate::ty::TyText;
+use std::marker::Model;
+
+/// The definition of a type's name.
+#[derive(Debug, Drop)]
+pub struct TypeDef {
+    /// The line of the definition's first token.
+    pub line: u32,
+    /// The name.
+    pub name: Name,
+    /// The struct that it stands for.
+    pub body: TyText,
+}
+
+/// The named types of a module in the order of the text. Contracts see a list.
+#[derive(Debug, Drop)]
+pub struct TypeDefs {
+    types: Vec<TypeDef>,
+}
+
+impl Model for TypeDefs {
+    ghost use Rattle.std.specs.Prelude.{List};
+    ghost use Rattle.std.specs.Coded.{coded_list};
+    ghost use Rattle.ir_syntax.specs.declared.type_def.TypeDef.{TypeDef};
+    ghost use Rattle.ir_syntax.specs.contracts.type_def.TypeDef as type_def;
+
+    ghost Value = { List TypeDef };
+
+    ghost coded = { coded_list type_def.the_row.coded };
+
+    ghost view = { λ t. t.types.items };
+}
+
+impl TypeDefs {
+    /// These definitions, in their order.
+    pub fn from_vec(types: Vec<TypeDef>) -> TypeDefs
+        ensures { result ≡ types.items }
+    {
+        TypeDefs { types }
+    }
+
+    /// The definitions in order.
+    pub fn as_slice(&self) -> &[TypeDef]
+        ensures { result.now ≡ self.now }
+    {
+        self.types.as_slice()
+    }
+
+    /// The definitions in order, to be taken apart.
+    pub fn into_vec(self) -> Vec<TypeDef>
+        ensures { result.items ≡ self }
+    {
+        self.types
+    }
+}
