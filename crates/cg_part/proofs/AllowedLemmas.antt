@@ -67,7 +67,7 @@ exits_allowed m f image input count steps code value n main returns few same exi
 pub program_shows : (m : Module) (f : Function) → IsProgram m → IsMain m f → (input : List ℕ) (n : ℕ) →
     Allowed m (program_bytes m) (program_count m) input n
 program_shows m f program main input n =
-    let built : IsBuiltFunction f = All-contains IsBuiltFunction m.functions f program.built main.among in
+    let built : IsBuiltFunction f = All-contains IsBuiltFunction m.functions f program.built.functions main.among in
     let constant = main_code m f built main in
     exits_allowed m f (program_bytes m) input (program_count m) (length (value_code constant.value) + 6)
     (low_bits 64 constant.value % 2 ^ 32) (wrapped 32 constant.value) n main constant.returns

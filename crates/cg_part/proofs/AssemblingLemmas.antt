@@ -21,7 +21,7 @@ use Rattle.cg_part.proofs.AssemblingText.{text_said}
 
 pub part_assembles : (m : Module) → IsProgram m → Assembles (part_text m) (part_object m)
 part_assembles m program =
-    let allowed = part_allowed m.functions (recursion_from_All IsBuiltFunction m.functions program.built) in (
+    let allowed = part_allowed m.functions (recursion_from_All IsBuiltFunction m.functions program.built.functions) in (
       part_forms m.functions,
       record {
         spelled = text_said m;

@@ -8,10 +8,10 @@ use Rattle.std.proofs.lemmas.List.Elements.{All-append, All-nil, All-cons}
 use Rattle.ir_syntax.specs.Literals.{literal_value}
 use Rattle.ir_syntax.specs.Names.{same_name}
 use Rattle.ir_syntax.specs.declared.block.Block.{Block}
-use Rattle.ir_syntax.specs.declared.block.Operand.{Operand}
-use Rattle.ir_syntax.specs.declared.block.Operand.TheVariants.{Local, Int}
-use Rattle.ir_syntax.specs.declared.block.Term.{Term}
-use Rattle.ir_syntax.specs.declared.block.Term.TheVariants.{Ret}
+use Rattle.ir_syntax.specs.declared.operand.Operand.{Operand}
+use Rattle.ir_syntax.specs.declared.operand.Operand.TheVariants.{Local, Int}
+use Rattle.ir_syntax.specs.declared.term.Term.{Term}
+use Rattle.ir_syntax.specs.declared.term.Term.TheVariants.{Ret}
 use Rattle.ir_syntax.specs.declared.function.Function.{Function}
 use Rattle.ir_syntax.specs.declared.function.Param.{Param}
 use Rattle.rv_isa.specs.Encoding.{IsInst, IsSigned12}
@@ -70,16 +70,18 @@ module _ (P : Inst → Type 0) (used : IsOfUsed P) where
   code_at_holds count None inside few = All-nil P
 
   operand_holds : (params : List Param) (value : Operand) → length params ≤ 8 → IsBuiltOperand params value → All P (operand_code params value)
-  operand_holds params (Local name) few built = code_at_holds (length params) _ (position_inside (λ p. same_name p.name name) params) few
+  operand_holds params (Local used) few built = code_at_holds (length params) _ (position_inside (λ p. same_name p.name used.name) params) few
   operand_holds params (Int literal) few built = constant_holds (length params) (literal_value literal) few built
+  operand_holds params other few built = absurd built
 
   term_holds : (params : List Param) (term : Term) → length params ≤ 8 → IsBuiltTerm params term → All P (term_code params term)
   term_holds params (Ret line ty value) few built = operand_holds params value few built
+  term_holds params other few built = absurd built
 
   body_holds : (params : List Param) (blocks : Option (List Block)) → length params ≤ 8 → IsBuiltBody params blocks → All P (body_code params blocks)
   body_holds params None few built = All-nil P
   body_holds params (Some []) few built = All-nil P
-  body_holds params (Some (block ∷ [])) few built = term_holds params block.term few built
+  body_holds params (Some (block ∷ [])) few built = term_holds params block.term few built.term
   body_holds params (Some (block ∷ next ∷ more)) few built = All-nil P
 
   pub code_holds : (f : Function) → IsBuiltFunction f → All P (function_code f)

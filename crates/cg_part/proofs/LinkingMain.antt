@@ -2,15 +2,15 @@
 use Rattle.std.proofs.Common.{◌≡◌, ◌++◌, ◌∷◌, [], ℤ, List, Option, Some, None, refl, ap, ap₂, sym, ◌∙◌, subst}
 use Rattle.std.specs.Prelude.{unwrap_or, option_map}
 use Rattle.ir_syntax.specs.Literals.{literal_value}
+use Rattle.ir_syntax.specs.Types.{int}
 use Rattle.ir_syntax.specs.declared.block.Block.{Block}
-use Rattle.ir_syntax.specs.declared.block.Operand.TheVariants.{Local, Int}
-use Rattle.ir_syntax.specs.declared.block.Term.{Term}
-use Rattle.ir_syntax.specs.declared.block.Term.TheVariants.{Ret}
+use Rattle.ir_syntax.specs.declared.operand.Operand.TheVariants.{Local, Int}
+use Rattle.ir_syntax.specs.declared.term.Term.{Term}
+use Rattle.ir_syntax.specs.declared.term.Term.TheVariants.{Ret}
 use Rattle.ir_syntax.specs.declared.function.Function.{Function}
 use Rattle.ir_syntax.specs.declared.module.Module.{Module}
-use Rattle.ir_syntax.specs.declared.ty.TyText.TheVariants as types
 use Rattle.rv_isa.specs.Encoding.{IsSigned12}
-use Rattle.cg_part.specs.Built.{IsBuiltFunction, IsBuiltBody, IsBuiltTerm, IsTypedBody, GivesType}
+use Rattle.cg_part.specs.Built.{IsBuiltFunction, IsBuiltBlock, IsBuiltBody, IsBuiltTerm, IsTypedBody, GivesType}
 use Rattle.cg_part.specs.Code.{return, value_code, term_code, body_code, function_code}
 use Rattle.cg_part.specs.Meaning.{IsMain, Returns, term_value, value_at, wrapped}
 
@@ -22,12 +22,12 @@ pub record ReturnsConstant (f : Function) : Type 0 where
   pub returns : Returns f [] (wrapped 32 value)
 
 module _ (f : Function) (none : f.params ≡ []) where
-  by_term : (block : Block) (term : Term) → f.blocks ≡ Some (block ∷ []) → block.term ≡ term →
-      IsBuiltTerm [] term → GivesType (Some (types.Int 32)) term → ReturnsConstant f
-  by_term block (Ret line ty (Local name)) body is built typed = absurd (cc)
-  by_term block (Ret line ty (Int literal)) body is built typed =
+  by_term : (block : Block) (term : Term) → f.blocks ≡ Some (block ∷ []) → IsBuiltBlock [] block → block.term ≡ term →
+      IsBuiltTerm [] term → GivesType (Some (int 32)) term → ReturnsConstant f
+  by_term block (Ret line ty (Local used)) body plain is built typed = absurd (cc)
+  by_term block (Ret line ty (Int literal)) body plain is built typed =
       let value : ℤ = literal_value literal in
-      let same : wrapped 32 value ≡ value_at ty value = ap (λ o. unwrap_or (option_map (λ t. value_at t value) o) 0) typed in
+      let same : Some (wrapped 32 value) ≡ value_at ty value = ap (λ o. unwrap_or (option_map (λ t. value_at t value) o) None) typed in
       record {
         value = value;
         signed = built;
@@ -35,15 +35,19 @@ module _ (f : Function) (none : f.params ≡ []) where
         returns = record {
           block = block;
           body = body;
-          returned = ap₂ (λ params term. term_value params [] term) none is ∙ ap (λ n. Some n) (sym same);
+          phis = plain.phis;
+          instrs = plain.instrs;
+          returned = ap₂ (λ params term. term_value params [] term) none is ∙ sym same;
         };
       }
+  by_term block (Ret line ty other) body plain is built typed = absurd built
+  by_term block other body plain is built typed = absurd built
 
-  by_body : (blocks : Option (List Block)) → f.blocks ≡ blocks → IsBuiltBody [] blocks → IsTypedBody (Some (types.Int 32)) blocks →
+  by_body : (blocks : Option (List Block)) → f.blocks ≡ blocks → IsBuiltBody [] blocks → IsTypedBody (Some (int 32)) blocks →
       ReturnsConstant f
   by_body None body built typed = absurd built
   by_body (Some []) body built typed = absurd built
-  by_body (Some (block ∷ [])) body built typed = by_term block block.term body refl built typed
+  by_body (Some (block ∷ [])) body built typed = by_term block block.term body built refl built.term typed
   by_body (Some (block ∷ next ∷ more)) body built typed = absurd built
 
 pub main_code : (m : Module) (f : Function) → IsBuiltFunction f → IsMain m f → ReturnsConstant f

@@ -6,10 +6,10 @@ use Rattle.std.proofs.lemmas.List.Elements.{recursion_from_All}
 use Rattle.ir_syntax.specs.Literals.{literal_value}
 use Rattle.ir_syntax.specs.Names.{same_name}
 use Rattle.ir_syntax.specs.declared.block.Block.{Block}
-use Rattle.ir_syntax.specs.declared.block.Operand.{Operand}
-use Rattle.ir_syntax.specs.declared.block.Operand.TheVariants.{Local, Int}
-use Rattle.ir_syntax.specs.declared.block.Term.{Term}
-use Rattle.ir_syntax.specs.declared.block.Term.TheVariants.{Ret}
+use Rattle.ir_syntax.specs.declared.operand.Operand.{Operand}
+use Rattle.ir_syntax.specs.declared.operand.Operand.TheVariants.{Local, Int}
+use Rattle.ir_syntax.specs.declared.term.Term.{Term}
+use Rattle.ir_syntax.specs.declared.term.Term.TheVariants.{Ret}
 use Rattle.ir_syntax.specs.declared.function.Function.{Function}
 use Rattle.ir_syntax.specs.declared.function.Param.{Param}
 use Rattle.ir_syntax.specs.declared.module.Module.{Module}
@@ -66,16 +66,18 @@ code_at_short count (Some place) inside found few = argument_short count place i
 code_at_short count None inside found few = absurd (cc)
 
 operand_short : (params : List Param) (value : Operand) → length params ≤ 8 → IsBuiltOperand params value → IsShort (operand_code params value)
-operand_short params (Local name) few built = code_at_short (length params) _ (position_inside (λ p. same_name p.name name) params) built few
+operand_short params (Local used) few built = code_at_short (length params) _ (position_inside (λ p. same_name p.name used.name) params) built few
 operand_short params (Int literal) few built = constant_short (length params) (literal_value literal) few
+operand_short params other few built = absurd built
 
 term_short : (params : List Param) (term : Term) → length params ≤ 8 → IsBuiltTerm params term → IsShort (term_code params term)
 term_short params (Ret line ty value) few built = operand_short params value few built
+term_short params other few built = absurd built
 
 body_short : (params : List Param) (blocks : Option (List Block)) → length params ≤ 8 → IsBuiltBody params blocks → IsShort (body_code params blocks)
 body_short params None few built = absurd built
 body_short params (Some []) few built = absurd built
-body_short params (Some (block ∷ [])) few built = term_short params block.term few built
+body_short params (Some (block ∷ [])) few built = term_short params block.term few built.term
 body_short params (Some (block ∷ next ∷ more)) few built = absurd built
 
 pub code_short : (f : Function) → IsBuiltFunction f → IsShort (function_code f)
@@ -96,7 +98,7 @@ program_counted m = ap (λ n. 12 + n) (length-map (part_code m.functions) (λ i.
 -- at most 12 instructions for each of 4096 functions
 pub part_fits : (m : Module) → IsProgram m → length (part_code m.functions) ≤ 49152
 part_fits m program =
-    let short = part_short m.functions (recursion_from_All IsBuiltFunction m.functions program.built) in
+    let short = part_short m.functions (recursion_from_All IsBuiltFunction m.functions program.built.functions) in
     let few = program.few in
     omega arith
 

@@ -210,7 +210,7 @@ resolves_by m text symbols needs = record {
 pub text_resolves : (m : Module) → IsBuilt m → Resolves m (part_text m ∷ [])
 unfolding part_text
 text_resolves m built =
-    let each = recursion_from_All IsBuiltFunction m.functions built in
+    let each = recursion_from_All IsBuiltFunction m.functions built.functions in
     let holds = part_holds m.functions each in
     resolves_by m (part_text m)
     (text_symbols (part_lines m.functions) (map symbol_of m.functions) holds ∙ ap (map symbol_of) (sym (all_defined m.functions each)))

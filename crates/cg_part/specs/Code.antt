@@ -4,10 +4,10 @@ use Rattle.std.specs.List.{range_with_len}
 use Rattle.ir_syntax.specs.Literals.{literal_value}
 use Rattle.ir_syntax.specs.Names.{same_name}
 use Rattle.ir_syntax.specs.declared.block.Block.{Block}
-use Rattle.ir_syntax.specs.declared.block.Operand.{Operand}
-use Rattle.ir_syntax.specs.declared.block.Operand.TheVariants.{Local, Int}
-use Rattle.ir_syntax.specs.declared.block.Term.{Term}
-use Rattle.ir_syntax.specs.declared.block.Term.TheVariants.{Ret}
+use Rattle.ir_syntax.specs.declared.operand.Operand.{Operand}
+use Rattle.ir_syntax.specs.declared.operand.Operand.TheVariants.{Local, Int}
+use Rattle.ir_syntax.specs.declared.term.Term.{Term}
+use Rattle.ir_syntax.specs.declared.term.Term.TheVariants.{Ret}
 use Rattle.ir_syntax.specs.declared.function.Function.{Function}
 use Rattle.ir_syntax.specs.declared.function.Param.{Param}
 use Rattle.ir_syntax.specs.declared.name.Name.{Name}
@@ -53,12 +53,15 @@ abbrev pub code_at : ℕ → Option ℕ → List Inst
 code_at count (Some place) = argument_code count place
 code_at count None = []
 
+-- an operand is returned; one that is not built has no code
 abbrev pub operand_code : List Param → Operand → List Inst
-operand_code params (Local name) = code_at (length params) (place_of name params)
+operand_code params (Local used) = code_at (length params) (place_of used.name params)
 operand_code params (Int literal) = constant_code (length params) (literal_value literal)
+operand_code params other = []
 
 abbrev pub term_code : List Param → Term → List Inst
 term_code params (Ret line ty value) = operand_code params value
+term_code params other = []
 
 -- a body of one block; a declaration has no code
 abbrev pub body_code : List Param → Option (List Block) → List Inst

@@ -3,26 +3,26 @@
 use Rattle.std.specs.Prelude.{◌≡◌, ◌+◌, ◌-◌, ◌%◌, ◌^◌, ℕ, ℤ, pos, negsuc, zero, suc, Option, Some, None, is_some, true, List, [], ◌∷◌, codes, if◌then◌else◌, Contains}
 use Rattle.ir_syntax.specs.Literals.{literal_value}
 use Rattle.ir_syntax.specs.Names.{name_bytes, same_name}
+use Rattle.ir_syntax.specs.Types.{TextTree, int}
 use Rattle.ir_syntax.specs.declared.block.Block.{Block}
-use Rattle.ir_syntax.specs.declared.block.Operand.{Operand}
-use Rattle.ir_syntax.specs.declared.block.Operand.TheVariants.{Local, Int}
-use Rattle.ir_syntax.specs.declared.block.Term.{Term}
-use Rattle.ir_syntax.specs.declared.block.Term.TheVariants.{Ret}
+use Rattle.ir_syntax.specs.declared.operand.Operand.{Operand}
+use Rattle.ir_syntax.specs.declared.operand.Operand.TheVariants.{Local, Int}
+use Rattle.ir_syntax.specs.declared.term.Term.{Term}
+use Rattle.ir_syntax.specs.declared.term.Term.TheVariants.{Ret}
 use Rattle.ir_syntax.specs.declared.function.Function.{Function}
 use Rattle.ir_syntax.specs.declared.function.Param.{Param}
 use Rattle.ir_syntax.specs.declared.module.Module.{Module}
 use Rattle.ir_syntax.specs.declared.name.Name.{Name}
-use Rattle.ir_syntax.specs.declared.ty.TyText.{TyText}
-use Rattle.ir_syntax.specs.declared.ty.TyText.TheVariants as types
 
 -- a whole number as a value of this many bits
 abbrev pub wrapped : ℕ → ℤ → ℕ
 wrapped bits (pos n) = n % 2 ^ bits
 wrapped bits (negsuc n) = 2 ^ bits - 1 - n % 2 ^ bits
 
--- a whole number as a value of a type
-abbrev pub value_at : TyText → ℤ → ℕ
-value_at (types.Int bits) z = wrapped bits z
+-- a whole number as a value of an integer type
+abbrev pub value_at : TextTree → ℤ → Option ℕ
+value_at (int bits) z = Some (wrapped bits z)
+value_at other z = None
 
 -- the value of the parameter of a name, in a call with these arguments
 abbrev pub argument_of : Name → List Param → List ℕ → Option ℕ
@@ -31,19 +31,23 @@ argument_of name (param ∷ params) [] = None
 argument_of name (param ∷ params) (value ∷ arguments) =
     if same_name param.name name then Some value else argument_of name params arguments
 
--- the value of an operand of a type
-abbrev pub operand_value : List Param → List ℕ → TyText → Operand → Option ℕ
-operand_value params arguments ty (Local name) = argument_of name params arguments
-operand_value params arguments ty (Int literal) = Some (value_at ty (literal_value literal))
+-- the value of an operand of a type: of a parameter, or of an integer literal
+abbrev pub operand_value : List Param → List ℕ → TextTree → Operand → Option ℕ
+operand_value params arguments ty (Local used) = argument_of used.name params arguments
+operand_value params arguments ty (Int literal) = value_at ty (literal_value literal)
+operand_value params arguments ty other = None
 
--- the value that a terminator returns
+-- the value that a `ret` of a value returns
 abbrev pub term_value : List Param → List ℕ → Term → Option ℕ
 term_value params arguments (Ret line ty value) = operand_value params arguments ty value
+term_value params arguments other = None
 
--- the value that a call with these arguments returns
+-- the value that a call with these arguments returns, where a `ret` is all that there is
 pub record Returns (f : Function) (arguments : List ℕ) (value : ℕ) : Type 0 where
   pub block : Block
   pub body : f.blocks ≡ Some (block ∷ [])
+  pub phis : block.phis ≡ []
+  pub instrs : block.instrs ≡ []
   pub returned : term_value f.params arguments block.term ≡ Some value
 
 -- a function that is defined as `main`, without parameters, and gives an i32
@@ -51,7 +55,7 @@ pub record IsMain (m : Module) (f : Function) : Type 0 where
   pub among : Contains m.functions f
   pub defined : is_some f.blocks ≡ true
   pub named : name_bytes f.name ≡ codes "main"
-  pub result : f.result ≡ Some (types.Int 32)
+  pub result : f.result ≡ Some (int 32)
   pub params : f.params ≡ []
 
 -- how a run stands: it goes on, it ended with a code, it was trapped, or its behaviour is undefined

@@ -4,8 +4,8 @@ ghost use Rattle.ir_syntax.specs.Literals.{literal_value};
 ghost use Rattle.ir_syntax.specs.Names.{same_name};
 ghost use Rattle.rv_isa.specs.Encoding.{IsInst, IsSigned12};
 ghost use Rattle.rv_isa.specs.Text.{is_zero};
-ghost use Rattle.cg_part.specs.Built.{IsBuiltFunction, IsBuiltBody, IsBuiltTerm};
-ghost use Rattle.cg_part.specs.Code.{addi, move, return, copies, argument_code, value_code, constant_code, code_at, place_of, term_code, body_code, function_code};
+ghost use Rattle.cg_part.specs.Built.{IsBuiltFunction, IsBuiltBody, IsBuiltOperand, IsBuiltTerm};
+ghost use Rattle.cg_part.specs.Code.{addi, move, return, copies, argument_code, value_code, constant_code, code_at, place_of, operand_code, term_code, body_code, function_code};
 
 use ir_syntax::{Block, Blocks, Function, Literal, Name, Operand, Param, Term};
 use rv_isa::{Inst, Op};
@@ -63,14 +63,20 @@ fn push_term(code: &mut Vec<Inst>, params: &[Param], term: &Term) -> Result<(), 
     ensures { OnOk result (code.new.items ≡ code.old.items ++ term_code params.now term.now) }
 {
     match term {
-        Term::Ret {
-            value: Operand::Local(name),
-            ..
-        } => push_parameter(code, params, name),
-        Term::Ret {
-            value: Operand::Int(literal),
-            ..
-        } => { push_constant(code, params.len() as u8, immediate_of(*literal)) }
+        Term::Ret { value, .. } => push_operand(code, params, value),
+        _ => Ok(()),
+    }
+}
+
+fn push_operand(code: &mut Vec<Inst>, params: &[Param], operand: &Operand) -> Result<(), AllocError>
+    requires arguments { length params.now ≤ 8 }
+    requires body { IsBuiltOperand params.now operand.now }
+    ensures { OnOk result (code.new.items ≡ code.old.items ++ operand_code params.now operand.now) }
+{
+    match operand {
+        Operand::Local(used) => push_parameter(code, params, &used.name),
+        Operand::Int(literal) => push_constant(code, params.len() as u8, immediate_of(*literal)),
+        _ => Ok(()),
     }
 }
 

@@ -56,7 +56,7 @@ fn bytes_of(name: &Name) -> &[u8]
 {
     match name {
         Name::Named(identifier) => identifier.as_bytes(),
-        Name::Unnamed(_) => &[],
+        Name::Unnamed(_) | Name::Implicit => &[],
     }
 }
 
