@@ -40,12 +40,12 @@ too_long left left' bytes n told takes =
 given : (left left' : Option (List ℕ)) (bytes all : List ℕ) → left ≡ Some bytes → GivesAll left left' all → all ≡ bytes
 given left left' bytes all told gave = GivesAll-told bytes left' all (subst (λ l. GivesAll l left' all) told gave)
 
--- two modules of one text have the same functions, and so the same main
+-- two modules of one text are one, and so have the same main
 same_main : (bytes : List ℕ) (m k : Module) → IsAccepted bytes m → IsAccepted bytes k → has_main m ≡ has_main k
-same_main bytes m k one other = ap (list_any (λ f. is_defined_main f && fits_main f)) (unique bytes m k one.reads other.reads)
+same_main bytes m k one other = ap has_main (unique bytes m k one.reads other.reads)
 
 same_defined : (bytes : List ℕ) (m k : Module) → IsAccepted bytes m → IsAccepted bytes k → defines_main m ≡ defines_main k
-same_defined bytes m k one other = ap (list_any is_defined_main) (unique bytes m k one.reads other.reads)
+same_defined bytes m k one other = ap defines_main (unique bytes m k one.reads other.reads)
 
 or_later : (a b : Bool) → b ≡ true → (a || b) ≡ true
 or_later true b later = refl
@@ -74,7 +74,7 @@ accepted_apart mode bytes m refusals.NoMain accepted serves (other, is, read, no
     both_ways (defines_main m) (same_defined bytes m other accepted read ∙ none) (main_defined m.functions (serves_run mode m is serves))
 accepted_apart mode bytes m refusals.BadMain accepted serves (other, is, read, defined, none) =
     both_ways (has_main m) (same_main bytes m other accepted read ∙ none) (serves_run mode m is serves)
-accepted_apart mode bytes m refusals.NoMemory accepted serves never = never
+accepted_apart mode bytes m other accepted serves never = never
 
 -- what a source that tells its bytes gave and is refused, its text is refused with
 refused_first : (mode : Mode) (left left' : Option (List ℕ)) (bytes : List ℕ) (refusal : Refusal) → left ≡ Some bytes →
@@ -86,7 +86,7 @@ refused_first mode left left' bytes refusals.NoMain told (all, gave, first) =
     subst (λ b. IsFirstRefusal mode b refusals.NoMain) (given left left' bytes all told gave) first
 refused_first mode left left' bytes refusals.BadMain told (all, gave, first) =
     subst (λ b. IsFirstRefusal mode b refusals.BadMain) (given left left' bytes all told gave) first
-refused_first mode left left' bytes refusals.NoMemory told never = never
+refused_first mode left left' bytes other told never = never
 
 taken_accepted : (left left' : Option (List ℕ)) (bytes : List ℕ) (m : Module) → left ≡ Some bytes → TakesModule left left' m → IsAccepted bytes m
 taken_accepted left left' bytes m told takes = subst (λ b. IsAccepted b m) (given left left' bytes takes.bytes told takes.gave) takes.accepted

@@ -80,11 +80,9 @@ pub text_reason : (mode : Mode) (bytes : List ℕ) (m : Module) → IsAccepted b
     HasModuleReason mode m outcome → HasTextReason mode bytes outcome
 text_reason mode bytes m accepted words_refused never = never
 text_reason mode bytes m accepted read_failed never = never
-text_reason mode bytes m accepted (refuses (refusals.TooLong taken)) never = absurd never
 text_reason mode bytes m accepted (refuses refusals.NoMain) reason = (m, reason.0, accepted, reason.1)
 text_reason mode bytes m accepted (refuses refusals.BadMain) reason = (m, reason.0, accepted, reason.1, reason.2)
-text_reason mode bytes m accepted (refuses (refusals.NotYet line)) never = absurd never
-text_reason mode bytes m accepted (refuses refusals.NoMemory) never = never
+text_reason mode bytes m accepted (refuses other) never = absurd never
 text_reason mode bytes m accepted (compiles other) reason = (reason.0, subst (IsAccepted bytes) (sym reason.1) accepted)
 text_reason mode bytes m accepted (runs other) reason =
     (reason.0, subst (IsAccepted bytes) (sym reason.1) accepted, ap has_main reason.1 ∙ reason.2)
@@ -99,7 +97,7 @@ whole_reason words mode left left' faults faults' bytes is gave short (refuses (
 whole_reason words mode left left' faults faults' bytes is gave short (refuses refusals.NoMain) reason = (mode, is, (bytes, gave, reason))
 whole_reason words mode left left' faults faults' bytes is gave short (refuses refusals.BadMain) reason = (mode, is, (bytes, gave, reason))
 whole_reason words mode left left' faults faults' bytes is gave short (refuses (refusals.NotYet line)) reason = (mode, is, (bytes, gave, reason))
-whole_reason words mode left left' faults faults' bytes is gave short (refuses refusals.NoMemory) never = absurd never
+whole_reason words mode left left' faults faults' bytes is gave short (refuses other) never = absurd never
 whole_reason words mode left left' faults faults' bytes is gave short (compiles m) reason =
     (is ∙ ap Some reason.0, record { bytes = bytes; gave = gave; accepted = reason.1 })
 whole_reason words mode left left' faults faults' bytes is gave short (runs m) reason =

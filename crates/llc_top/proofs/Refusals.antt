@@ -14,7 +14,7 @@ use Rattle.llc_top.specs.declared.reader.stop.ReadError.TheVariants.{NoMemory, N
 use Rattle.llc_top.specs.Reading.{EndsAs, Progress, Stage, after_line, between, is_between, complete, opened, stepped}
 use Rattle.llc_top.specs.Reads.{Begins, IsOnly, IsRefusal, IsRefusedLine, Reads, first_lines, lines_of}
 use Rattle.llc_top.specs.Views.{has_feed}
-use Rattle.llc_top.specs.Tree.{functions_of}
+use Rattle.llc_top.specs.Tree.{functions_of, module_of}
 use Rattle.llc_top.proofs.Feeds.{AreLines, cut, source_feedless}
 use Rattle.llc_top.proofs.LineTexts.{count_lines, first_and_rest, first_lines_are, joined, last_line, no_lines}
 use Rattle.llc_top.proofs.ParamTexts.{IsDistinct-nil}
@@ -42,11 +42,11 @@ texts_join a b = sym (flat_map-append ended a b)
 continued_begins : (lines : List (List ℕ)) → Continued lines → Begins (text_of_lines lines)
 continued_begins lines c = (
   text_of_lines c.later,
-  record { functions = functions_of 1 c.ds },
+  module_of (functions_of 1 c.ds),
   record {
     ds = c.ds;
     defined = c.are;
-    functions = refl;
+    tree = refl;
     text = texts_join lines c.later ∙ ap text_of_lines (sym c.lines_are);
   },
 )
@@ -65,7 +65,7 @@ begins_continued lines h b =
     record { ds = b.2.ds; are = b.2.defined; later = c.later; lines_are = c.lines_are }
 
 reads_begins : (front more bytes : List ℕ) (m : Module) → bytes ≡ front ++ more → Reads bytes m → Begins front
-reads_begins front more bytes m e r = (more, m, record { ds = r.ds; defined = r.defined; functions = r.functions; text = sym e ∙ r.text })
+reads_begins front more bytes m e r = (more, m, record { ds = r.ds; defined = r.defined; tree = r.tree; text = sym e ∙ r.text })
 
 -- ---- what is read so far
 
@@ -181,14 +181,14 @@ refused_end text line p h busy =
     }
 
 -- the end of a text after a function
-pub read_whole : (text : List ℕ) (line : ℕ) (p : Progress) (m : Module) → HasRead text [] line p → is_between p.stage ≡ true → m.functions ≡ p.functions → Reads text m
+pub read_whole : (text : List ℕ) (line : ℕ) (p : Progress) (m : Module) → HasRead text [] line p → is_between p.stage ≡ true → m ≡ module_of p.functions → Reads text m
 read_whole text line p m h stage functions = by_stage p.stage stage h.stands
   where
     by_stage : (s : Stage) → is_between s ≡ true → Stands h.lines p.functions p.names s → Reads text m
     by_stage between e s = record {
       ds = s.ds;
       defined = s.stage_is.0;
-      functions = functions ∙ s.functions_are;
+      tree = functions ∙ ap module_of s.functions_are;
       text = h.text_is ∙ append-nil (text_of_lines h.lines) ∙ ap text_of_lines (s.lines_are ∙ ap (λ (x : List (List ℕ)). flat_map source_lines s.ds ++ x) s.stage_is.2 ∙ append-nil (flat_map source_lines s.ds));
     }
     by_stage (opened head) e s = absurd cc
@@ -204,8 +204,8 @@ excludes bytes m n r refused =
       | inr le ↦ refused.last (omega (arith, refused.within)) m r
     ]
 
--- a text has the functions of one module
-pub unique : (bytes : List ℕ) (m k : Module) → Reads bytes m → Reads bytes k → m.functions ≡ k.functions
+-- a text is that of one module
+pub unique : (bytes : List ℕ) (m k : Module) → Reads bytes m → Reads bytes k → m ≡ k
 unique bytes m k r s =
     let a : List (List ℕ) = flat_map source_lines r.ds in
     let b : List (List ℕ) = flat_map source_lines s.ds in
@@ -213,7 +213,7 @@ unique bytes m k r s =
     let none : c.later ≡ [] = no_lines c.later [] refl c.rest_is in
     let t = strip s.ds r.ds [] s.defined.each r.defined.each (c.lines_are ∙ ap (λ (x : List (List ℕ)). b ++ x) none) in
     let whole : r.ds ≡ t.front = t.parts ∙ ap (λ (x : List Definition). t.front ++ x) (no_more t.more t.lines_are) ∙ append-nil t.front in
-    r.functions ∙ ap (λ (x : List Definition). functions_of 1 x) whole ∙ t.functions 1 ∙ sym s.functions
+    r.tree ∙ ap module_of (ap (λ (x : List Definition). functions_of 1 x) whole ∙ t.functions 1) ∙ sym s.tree
   where
     no_more : (more : List Definition) → [] ≡ flat_map source_lines more → more ≡ []
     no_more [] e = refl

@@ -7,13 +7,12 @@ use Rattle.std.specs.Str.{bytes_eq}
 use Rattle.std.proofs.lemmas.Bool.Decides.{nat_tests}
 use Rattle.std.proofs.lemmas.Option.{cond_some}
 use Rattle.std.proofs.lemmas.Slice.Eq.{bytes_eq-Decides}
-use Rattle.ir_syntax.specs.declared.block.Operand.{Operand}
-use Rattle.ir_syntax.specs.declared.block.Operand.TheVariants.{Local, Int}
 use Rattle.ir_syntax.specs.declared.function.Param.{Param}
-use Rattle.ir_syntax.specs.declared.name.Name.TheVariants.{Named}
 use Rattle.llc_top.specs.Definition.{Definition, IsDefinition, IsReturned, Returned, argument, constant, return_line, type_text, value_text}
 use Rattle.llc_top.specs.Reading.{◌>>=◌, after, after_type, constant_of, has_param, if_more, is_small, return_of, value_of}
 use Rattle.llc_top.specs.Tree.{literal_of, operand_of, param_of}
+use Rattle.llc_top.specs.declared.reader.returned.Value.{Value}
+use Rattle.llc_top.specs.declared.reader.returned.Value.TheVariants.{Parameter, Number}
 use Rattle.llc_top.proofs.Constants.{constant_again, constant_sound, no_percent}
 use Rattle.llc_top.proofs.Heads.{head_of}
 use Rattle.llc_top.proofs.ParamTexts.{is_new_param}
@@ -54,47 +53,47 @@ module _ (line bits : ℕ) (names : List (List ℕ)) where
   abbrev params : List Param
   params = map (param_of line bits) names
 
-  abbrev number : List ℕ → Option Operand
-  number text = constant_of text >>= λ z. some (Int (literal_of z))
+  abbrev number : List ℕ → Option Value
+  number text = constant_of text >>= λ z. some (Number (literal_of z))
 
-  abbrev local : List ℕ → Option Operand
-  local name = cond (has_param params name) (some (Local (Named name))) None
+  abbrev local : List ℕ → Option Value
+  local name = cond (has_param params name) (some (Parameter name)) None
 
   pub value_again : (r : Returned) → IsReturned names r → value_of params (value_text names r) ≡ Some (operand_of names r)
   unfolding value_of
   value_again (argument i) lt =
       let name : List ℕ = get_or names i [] in
       ap (λ (o : Option (List ℕ)). if_more o (number (codes "%" ++ name)) local) (after_again (codes "%") name)
-      ∙ ap (λ (b : Bool). cond b (some (Local (Named name))) None) (is_new_param line bits names name ∙ any_at names i lt)
+      ∙ ap (λ (b : Bool). cond b (some (Parameter name)) None) (is_new_param line bits names name ∙ any_at names i lt)
   value_again (constant z) range =
       let small : is_small z ≡ true = is_in_range z range.0 range.1 in
       ap (λ (o : Option (List ℕ)). if_more o (number (signed_decimal z)) local) (no_percent z small)
-      ∙ ap (λ (o : Option ℤ). o >>= λ z. some (Int (literal_of z))) (constant_again z small)
+      ∙ ap (λ (o : Option ℤ). o >>= λ z. some (Number (literal_of z))) (constant_again z small)
 
   -- what a value says
-  pub record Values (text : List ℕ) (value : Operand) : Type 0 where
+  pub record Values (text : List ℕ) (value : Value) : Type 0 where
     pub r : Returned
     pub is : IsReturned names r
     pub text_is : text ≡ value_text names r
     pub value_is : value ≡ operand_of names r
 
-  pub value_sound : (text : List ℕ) (value : Operand) → value_of params text ≡ Some value → Values text value
+  pub value_sound : (text : List ℕ) (value : Value) → value_of params text ≡ Some value → Values text value
   unfolding value_of
   value_sound text value e = chosen (after (codes "%") text) refl e
     where
       chosen : (o : Option (List ℕ)) → after (codes "%") text ≡ o → if_more o (number text) local ≡ Some value → Values text value
       chosen None is e =
-          let a = bind_some (constant_of text) (λ z. some (Int (literal_of z))) value e in
+          let a = bind_some (constant_of text) (λ z. some (Number (literal_of z))) value e in
           let c = constant_sound text a.0 a.1 in
           record { r = constant a.0; is = in_range a.0 c.0; text_is = c.1; value_is = sym (some_is _ _ a.2) }
       chosen (Some name) is e =
-          let g = cond_some (has_param params name) (Local (Named name)) value e in
+          let g = cond_some (has_param params name) (Parameter name) value e in
           let at = place_of name names (sym (is_new_param line bits names name) ∙ g.0) in
           record {
             r = argument at.0;
             is = at.1.0;
             text_is = after_sound (codes "%") text name is ∙ ap (λ (x : List ℕ). codes "%" ++ x) (sym at.1.1);
-            value_is = sym g.1 ∙ ap (λ (x : List ℕ). Local (Named x)) (sym at.1.1);
+            value_is = sym g.1 ∙ ap (λ (x : List ℕ). Parameter x) (sym at.1.1);
           }
 
 -- ---- the line
@@ -107,10 +106,10 @@ abbrev pub returning : Definition → Returned → Definition
 returning d r = record { name = d.name; bits = d.bits; params = d.params; value = r }
 
 module _ (line : ℕ) (d : Definition) where
-  abbrev spaced : List ℕ → Option Operand
+  abbrev spaced : List ℕ → Option Value
   spaced typed = after (codes " ") typed >>= value_of (head_of line d).params
 
-  abbrev worded : List ℕ → Option Operand
+  abbrev worded : List ℕ → Option Value
   worded word = after_type d.bits word >>= spaced
 
   pub return_again : IsDefinition d → return_of (head_of line d) (return_line d) ≡ Some (operand_of d.params d.value)
@@ -124,13 +123,13 @@ module _ (line : ℕ) (d : Definition) where
       ∙ value_again line d.bits d.params d.value is.returned
 
   -- what a line of `ret` says
-  pub record Gives (text : List ℕ) (value : Operand) : Type 0 where
+  pub record Gives (text : List ℕ) (value : Value) : Type 0 where
     pub r : Returned
     pub is : IsReturned d.params r
     pub text_is : text ≡ return_line (returning d r)
     pub value_is : value ≡ operand_of d.params r
 
-  pub return_sound : (text : List ℕ) (value : Operand) → return_of (head_of line d) text ≡ Some value → Gives text value
+  pub return_sound : (text : List ℕ) (value : Value) → return_of (head_of line d) text ≡ Some value → Gives text value
   unfolding return_of
   return_sound text value e =
       let a = bind_some (after (codes "  ret ") text) worded value e in

@@ -1,7 +1,7 @@
 -- The lines of a text tell its functions.
 use Rattle.std.proofs.Common.{◌≡◌, ℕ, suc, ◌+◌, ◌*◌, List, [], ◌∷◌, ◌++◌, map, length, refl, sym, ap, ◌∙◌, arith}
 use Rattle.std.specs.List.{AllByRecursion, flat_map}
-use Rattle.ir_syntax.specs.declared.block.Operand.{Operand}
+use Rattle.llc_top.specs.declared.reader.returned.Value.{Value}
 use Rattle.ir_syntax.specs.declared.function.Function.{Function}
 use Rattle.llc_top.specs.Definition.{Definition, IsDefinition, define_line, return_line, source_lines}
 use Rattle.llc_top.specs.Reading.{Opened, completed, define_of, return_of}
@@ -44,7 +44,7 @@ same_function : (line : ℕ) (d e : Definition) → IsDefinition d → IsDefinit
 same_function line d e p q first second =
     let head = same_head line d e p q first in
     ap (λ (h : Opened). completed h (line + 1) (operand_of d.params d.value)) head
-    ∙ ap (λ (v : Operand). completed (head_of line e) (line + 1) v) (same_value line d e p q head second)
+    ∙ ap (λ (v : Value). completed (head_of line e) (line + 1) v) (same_value line d e p q head second)
 
 -- ---- lines that begin with those of these functions
 

@@ -10,7 +10,7 @@ use Rattle.std.proofs.lemmas.List.Concat.{flat_map-append}
 use Rattle.std.proofs.lemmas.Map.Keys.{IsDistinct-push}
 use Rattle.std.proofs.lemmas.Option.{cond_some}
 use Rattle.std.proofs.lemmas.Slice.Eq.{bytes_eq-Decides}
-use Rattle.ir_syntax.specs.declared.block.Operand.{Operand}
+use Rattle.llc_top.specs.declared.reader.returned.Value.{Value}
 use Rattle.ir_syntax.specs.declared.function.Function.{Function}
 use Rattle.llc_top.specs.Definition.{AreDefinitions, Definition, IsDefinition, define_line, return_line, source_lines}
 use Rattle.llc_top.specs.Reading.{◌>>=◌, Opened, Progress, Stage, after_line, between, complete, completed, define_of, opened, return_of, with_head}
@@ -139,7 +139,7 @@ module _ (functions : List Function) (names : List (List ℕ)) (lines : List (Li
       } in
       let hand : Hand ds c names = record { all = with_value ds d c is.1.all defines refl; named = is.1.named ∙ same_names ds d c refl } in
       let function : completed head line a.0 ≡ function_of (next_line ds) c =
-      ap (λ (h : Opened). completed h line a.0) is.2 ∙ ap (λ n. completed (head_of (next_line ds) d) n a.0) here ∙ ap (λ (v : Operand). completed (head_of (next_line ds) d) (next_line ds + 1) v) r.value_is in
+      ap (λ (h : Opened). completed h line a.0) is.2 ∙ ap (λ n. completed (head_of (next_line ds) d) n a.0) here ∙ ap (λ (v : Value). completed (head_of (next_line ds) d) (next_line ds + 1) v) r.value_is in
       subst (λ (p : Progress). StandsAt (lines ++ text ∷ []) p) (some_is made q a.2) (record {
         ds = ds;
         begun = define_line c ∷ return_line c ∷ [];

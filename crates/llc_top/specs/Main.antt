@@ -3,19 +3,22 @@ use Rattle.std.specs.Prelude.{◌&&◌, ◌==◌, Bool, true, false, Option, Som
 use Rattle.std.specs.List.{list_any}
 use Rattle.cg_part.specs.Program.{function_name}
 use Rattle.cg_part.specs.Resolving.{has_body}
+use Rattle.ir_syntax.specs.Types.{TextTree, int}
 use Rattle.ir_syntax.specs.declared.function.Function.{Function}
 use Rattle.ir_syntax.specs.declared.function.Param.{Param}
 use Rattle.ir_syntax.specs.declared.module.Module.{Module}
-use Rattle.ir_syntax.specs.declared.ty.TyText.{TyText}
-use Rattle.ir_syntax.specs.declared.ty.TyText.TheVariants as types
 
 -- defined, by the name `main`
 abbrev pub is_defined_main : Function → Bool
 is_defined_main f = has_body f && bytes_eq (function_name f) (codes "main")
 
-abbrev pub gives_i32 : Option TyText → Bool
+abbrev pub is_i32 : TextTree → Bool
+is_i32 (int bits) = bits == 32
+is_i32 other = false
+
+abbrev pub gives_i32 : Option TextTree → Bool
 gives_i32 None = false
-gives_i32 (Some (types.Int bits)) = bits == 32
+gives_i32 (Some ty) = is_i32 ty
 
 abbrev pub takes_none : List Param → Bool
 takes_none [] = true

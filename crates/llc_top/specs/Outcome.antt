@@ -50,6 +50,10 @@ status_of (runs m) = statuses.Done
 -- a refusal as it is printed: its number, its name and its fields
 abbrev pub refusal_text : Refusal → List ℕ
 refusal_text (refusals.TooLong taken) = codes "llc: refused 1 TooLong " ++ decimal taken
+refusal_text (refusals.Lex line) = codes "llc: refused 2 Lex " ++ decimal line
+refusal_text (refusals.Unsupported line word) = codes "llc: refused 3 Unsupported " ++ decimal line ++ codes " " ++ word
+refusal_text (refusals.Form line) = codes "llc: refused 4 Form " ++ decimal line
+refusal_text (refusals.Name line) = codes "llc: refused 5 Name " ++ decimal line
 refusal_text refusals.NoMain = codes "llc: refused 14 NoMain"
 refusal_text refusals.BadMain = codes "llc: refused 15 BadMain"
 refusal_text (refusals.NotYet line) = codes "llc: refused 18 NotYet " ++ decimal line
@@ -85,7 +89,7 @@ IsFirstRefusal mode bytes refusals.NoMain =
     (m : Module) × (mode ≡ modes.Run) × IsAccepted bytes m × (defines_main m ≡ false)
 IsFirstRefusal mode bytes refusals.BadMain =
     (m : Module) × (mode ≡ modes.Run) × IsAccepted bytes m × (defines_main m ≡ true) × (has_main m ≡ false)
-IsFirstRefusal mode bytes refusals.NoMemory = ⊥
+IsFirstRefusal mode bytes other = ⊥
 
 -- the whole text of the source is this module's
 pub record TakesModule (left left' : Option (List ℕ)) (m : Module) : Type 0 where
@@ -103,7 +107,7 @@ TakesRefused mode left left' refusals.NoMain =
     (bytes : List ℕ) × GivesAll left left' bytes × IsFirstRefusal mode bytes refusals.NoMain
 TakesRefused mode left left' refusals.BadMain =
     (bytes : List ℕ) × GivesAll left left' bytes × IsFirstRefusal mode bytes refusals.BadMain
-TakesRefused mode left left' refusals.NoMemory = ⊥
+TakesRefused mode left left' other = ⊥
 
 -- why a run comes to this, by its words and by what its source had left, and how often it had failed, before
 -- and now

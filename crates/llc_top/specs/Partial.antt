@@ -50,11 +50,9 @@ ToldRefusal refusal statuses.ReadFault err err' = ⊥
 abbrev pub HasModuleReason : Mode → Module → Outcome → Type 0
 HasModuleReason mode m words_refused = ⊥
 HasModuleReason mode m read_failed = ⊥
-HasModuleReason mode m (refuses (refusals.TooLong taken)) = ⊥
 HasModuleReason mode m (refuses refusals.NoMain) = (mode ≡ modes.Run) × (defines_main m ≡ false)
 HasModuleReason mode m (refuses refusals.BadMain) = (mode ≡ modes.Run) × (defines_main m ≡ true) × (has_main m ≡ false)
-HasModuleReason mode m (refuses (refusals.NotYet line)) = ⊥
-HasModuleReason mode m (refuses refusals.NoMemory) = ⊥
+HasModuleReason mode m (refuses other) = ⊥
 HasModuleReason mode m (compiles other) = (mode ≡ modes.Compile) × (other ≡ m)
 HasModuleReason mode m (runs other) = (mode ≡ modes.Run) × (other ≡ m) × (has_main m ≡ true)
 

@@ -9,16 +9,15 @@ use Rattle.std.specs.Str.Parse.{signed_digits_value}
 use Rattle.cg_part.specs.Built.{starts_name}
 use Rattle.ir_syntax.specs.declared.function.Function.{Function}
 use Rattle.ir_syntax.specs.declared.function.Param.{Param}
-use Rattle.ir_syntax.specs.declared.function.Linkage.TheVariants.{External}
-use Rattle.ir_syntax.specs.declared.function.Visibility.TheVariants.{Default}
-use Rattle.ir_syntax.specs.declared.block.Operand.{Operand}
-use Rattle.ir_syntax.specs.declared.block.Operand.TheVariants.{Local, Int}
-use Rattle.ir_syntax.specs.declared.block.Term.TheVariants.{Ret}
+use Rattle.ir_syntax.specs.declared.linkage.Linkage.TheVariants.{External}
+use Rattle.ir_syntax.specs.declared.linkage.Visibility.TheVariants.{Default}
 use Rattle.ir_syntax.specs.declared.module.Module.{Module}
 use Rattle.ir_syntax.specs.declared.name.Name.{Name}
-use Rattle.ir_syntax.specs.declared.name.Name.TheVariants.{Named, Unnamed}
+use Rattle.ir_syntax.specs.declared.name.Name.TheVariants.{Named, Unnamed, Implicit}
 use Rattle.llc_top.specs.Definition.{is_name_byte}
-use Rattle.llc_top.specs.Tree.{type_of, literal_of, param_of}
+use Rattle.llc_top.specs.Tree.{block_with, type_of, literal_of, module_of, param_of}
+use Rattle.llc_top.specs.declared.reader.returned.Value.{Value}
+use Rattle.llc_top.specs.declared.reader.returned.Value.TheVariants.{Parameter, Number}
 use Rattle.llc_top.specs.declared.reader.stop.Stop.{Stop}
 use Rattle.llc_top.specs.declared.reader.stop.Stop.TheVariants.{Refused, OutOfMemory}
 
@@ -76,6 +75,7 @@ param_at bits bytes = do
 abbrev pub is_called : List ℕ → Name → Bool
 is_called bytes (Named own) = bytes_eq own bytes
 is_called bytes (Unnamed n) = false
+is_called bytes Implicit = false
 
 -- whether a parameter has this name
 abbrev pub has_param : List Param → List ℕ → Bool
@@ -132,12 +132,12 @@ constant_of text =
     if is_small z && bytes_eq (signed_decimal z) text then Some z else None
 
 -- the parameter after `%`, or the constant
-unfoldable pub value_of : List Param → List ℕ → Option Operand
+unfoldable pub value_of : List Param → List ℕ → Option Value
 value_of params text =
-    if_more (after (codes "%") text) (constant_of text >>= λ z. Some (Int (literal_of z)))
-    (λ name. if has_param params name then Some (Local (Named name)) else None)
+    if_more (after (codes "%") text) (constant_of text >>= λ z. Some (Number (literal_of z)))
+    (λ name. if has_param params name then Some (Parameter name) else None)
 
-unfoldable pub return_of : Opened → List ℕ → Option Operand
+unfoldable pub return_of : Opened → List ℕ → Option Value
 return_of head text = do
   word ← after (codes "  ret ") text
   typed ← after_type head.bits word
@@ -145,15 +145,16 @@ return_of head text = do
   value_of head.params value
 
 -- the function of this head that returns this value on this line
-abbrev pub completed : Opened → ℕ → Operand → Function
+abbrev pub completed : Opened → ℕ → Value → Function
 completed head line value = record {
   line = head.line;
   name = Named head.name;
+  name_line = head.line;
   linkage = External;
   visibility = Default;
   result = Some (type_of head.bits);
   params = head.params;
-  blocks = Some (record { line = line; label = Unnamed 0; term = Ret line (type_of head.bits) value } ∷ []);
+  blocks = Some (block_with line head.bits value ∷ []);
 }
 
 -- what is read of the function in hand
@@ -194,4 +195,4 @@ is_between (complete f) = false
 -- at the end of a text: the module, if no function is in hand
 abbrev pub EndsAs : Progress → Option Module → Type 0
 EndsAs p None = is_between p.stage ≡ false
-EndsAs p (Some m) = (is_between p.stage ≡ true) × (m.functions ≡ p.functions)
+EndsAs p (Some m) = (is_between p.stage ≡ true) × (m ≡ module_of p.functions)

@@ -5,7 +5,7 @@ use Rattle.std.specs.declared.result.Result.{Result}
 use Rattle.ir_syntax.specs.declared.module.Module.{Module}
 use Rattle.rv_isa.specs.Lines.{in_first}
 use Rattle.llc_top.specs.Definition.{Definition, AreDefinitions, source_of}
-use Rattle.llc_top.specs.Tree.{functions_of}
+use Rattle.llc_top.specs.Tree.{functions_of, module_of}
 use Rattle.llc_top.specs.declared.reader.stop.ReadError.{ReadError}
 use Rattle.llc_top.specs.declared.reader.stop.ReadError.TheVariants.{NotYet, NoMemory}
 
@@ -13,7 +13,7 @@ use Rattle.llc_top.specs.declared.reader.stop.ReadError.TheVariants.{NotYet, NoM
 pub record Reads (bytes : List ℕ) (m : Module) : Type 0 where
   pub ds : List Definition
   pub defined : AreDefinitions ds
-  pub functions : m.functions ≡ functions_of 1 ds
+  pub tree : m ≡ module_of (functions_of 1 ds)
   pub text : bytes ≡ source_of ds
 
 -- More bytes make it the text of a module.
@@ -45,6 +45,6 @@ IsRefusal bytes NoMemory = Unit {0}
 
 -- The answer is this module, or that memory ran out.
 abbrev pub IsOnly : Module → Result Module ReadError → Type 0
-IsOnly m (Ok read) = read.functions ≡ m.functions
+IsOnly m (Ok read) = read ≡ m
 IsOnly m (Err NoMemory) = Unit {0}
 IsOnly m (Err (NotYet n)) = ⊥

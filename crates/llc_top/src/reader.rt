@@ -6,6 +6,7 @@ mod name;
 mod param;
 mod progress;
 mod read;
+mod returned;
 mod split;
 mod step;
 mod stop;

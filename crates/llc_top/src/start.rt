@@ -3,7 +3,7 @@ ghost use Rattle.std.specs.Prelude.{◌≡◌, bytes_eq, codes};
 ghost use Rattle.ir_syntax.specs.Names.{name_bytes};
 ghost use Rattle.llc_top.specs.Main.{is_defined_main, gives_i32, takes_none, fits_main, defines_main, has_main};
 
-use ir_syntax::{Function, Module, Name, Param, TyText};
+use ir_syntax::{Function, Module, Name, Param, TyText, TypeTree};
 
 /// Whether a `main` is defined.
 pub fn defines_a_main(m: &Module) -> bool
@@ -36,7 +36,7 @@ fn is_called_main(name: &Name) -> bool
 {
     match name {
         Name::Named(name) => name.as_bytes() == b"main".as_slice(),
-        Name::Unnamed(_) => false,
+        Name::Unnamed(_) | Name::Implicit => false,
     }
 }
 
@@ -49,7 +49,10 @@ fn fits(function: &Function) -> bool
 fn is_i32(ty: &Option<TyText>) -> bool
     ensures { result ≡ gives_i32 ty.now }
 {
-    matches!(ty, Some(TyText::Int { bits: 32 }))
+    match ty {
+        Some(ty) => matches!(ty.tree(), TypeTree::Int { bits: 32 }),
+        None => false,
+    }
 }
 
 fn is_none(params: &[Param]) -> bool

@@ -22,6 +22,10 @@ pub fn tell_refusal<E: Sink>(err: &mut E, refusal: Refusal) -> Result<(), WriteF
 {
     match refusal {
         Refusal::TooLong { taken } => tell_number(err, b"llc: refused 1 TooLong ", taken),
+        Refusal::Lex { line } => tell_number(err, b"llc: refused 2 Lex ", u64::from(line)),
+        Refusal::Unsupported { line, word } => tell_word(err, line, word.as_slice()),
+        Refusal::Form { line } => tell_number(err, b"llc: refused 4 Form ", u64::from(line)),
+        Refusal::Name { line } => tell_number(err, b"llc: refused 5 Name ", u64::from(line)),
         Refusal::NoMain => write_all(err, b"llc: refused 14 NoMain\n"),
         Refusal::BadMain => write_all(err, b"llc: refused 15 BadMain\n"),
         Refusal::NotYet { line } => tell_number(err, b"llc: refused 18 NotYet ", u64::from(line)),
@@ -54,6 +58,33 @@ fn trap_line(kind: TrapKind) -> &'static [u8]
         TrapKind::Ecall => b"trap ecall\n",
         TrapKind::Break => b"trap break\n",
     }
+}
+
+/// Tells that a word is not supported on a line. It takes no memory.
+fn tell_word<E: Sink>(err: &mut E, line: u32, word: &[u8]) -> Result<(), WriteFault>
+    ensures all { OnOk result (Appends (E.written err.old) (E.written err.new) (ended (refusal_text (Refusal.Unsupported line word.now)))) }
+    ensures prefix { AppendsPrefix (E.written err.old) (E.written err.new) (ended (refusal_text (Refusal.Unsupported line word.now))) }
+    ensures fault { OnErr result (Rose (E.faults err.old) (E.faults err.new)) }
+    ensures kept { OnOk result (E.faults err.new ≡ E.faults err.old) }
+{
+    let mut digits = Buffer::new();
+    let number = digits.format(u64::from(line)).as_bytes();
+    write_both(err, b"llc: refused 3 Unsupported ", number)?;
+    write_both(err, b" ", word)?;
+    write_all(err, b"\n")?;
+    Ok(())
+}
+
+/// Writes these bytes, then those.
+fn write_both<E: Sink>(err: &mut E, first: &[u8], second: &[u8]) -> Result<(), WriteFault>
+    ensures all { OnOk result (Appends (E.written err.old) (E.written err.new) (first.now ++ second.now)) }
+    ensures prefix { AppendsPrefix (E.written err.old) (E.written err.new) (first.now ++ second.now) }
+    ensures fault { OnErr result (Rose (E.faults err.old) (E.faults err.new)) }
+    ensures kept { OnOk result (E.faults err.new ≡ E.faults err.old) }
+{
+    write_all(err, first)?;
+    write_all(err, second)?;
+    Ok(())
 }
 
 /// Tells a line that ends in a number. It takes no memory.

@@ -19,7 +19,7 @@ fn is_called(name: &Name, bytes: &[u8]) -> bool
 {
     match name {
         Name::Named(own) => own.as_bytes() == bytes,
-        Name::Unnamed(_) => false,
+        Name::Unnamed(_) | Name::Implicit => false,
     }
 }
 
@@ -52,8 +52,9 @@ fn make_param(alloc: Global, line: u32, bits: u8, name: &[u8]) -> Result<Param, 
     let name = Name::Named(Identifier::from_vec(Vec::from_slice(alloc, name)?));
     Ok(Param {
         line,
-        ty: Some(TyText::Int { bits }),
+        ty: Some(TyText::int(bits)),
         name,
+        name_line: line,
     })
 }
 

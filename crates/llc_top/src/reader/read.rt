@@ -36,7 +36,9 @@ fn read(alloc: Global, text: &[u8]) -> Result<Module, ReadError>
     if !rest.is_empty() {
         return Err(ReadError::NotYet { line: line + 1 });
     }
-    progress.into_module().ok_or(ReadError::NotYet { line })
+    progress
+        .into_module(alloc)
+        .ok_or(ReadError::NotYet { line })
 }
 
 /// The module of a text of functions, each of three lines that end in a line feed (LangRef,
@@ -72,6 +74,6 @@ pub(crate) fn read_module(alloc: Global, text: &[u8]) -> Result<Module, ReadErro
 /// No text is both read and refused, and a text has one module or one line that is refused.
 pub(crate) fn one_answer()
     ensures excludes { (bytes : List ℕ) (m : Module) (n : ℕ) → Reads bytes m → IsRefusedLine bytes n → ⊥ }
-    ensures unique { (bytes : List ℕ) (m k : Module) → Reads bytes m → Reads bytes k → m.functions ≡ k.functions }
+    ensures unique { (bytes : List ℕ) (m k : Module) → Reads bytes m → Reads bytes k → m ≡ k }
     ensures line { (bytes : List ℕ) (n k : ℕ) → IsRefusedLine bytes n → IsRefusedLine bytes k → n ≡ k }
 {}

@@ -4,6 +4,7 @@ ghost use Rattle.std.specs.List.{list_any};
 ghost use Rattle.std.specs.Str.{bytes_eq};
 ghost use Rattle.llc_top.specs.declared.reader.stop.Stop.TheVariants.{OutOfMemory};
 ghost use Rattle.llc_top.specs.Reading.{EndsAs, Gives, stepped, with_head};
+ghost use Rattle.llc_top.specs.Tree.{module_of};
 ghost use Rattle.llc_top.specs.Views.{opened_by, progress_of, texts};
 
 use crate::reader::completed::{completed, return_of};
@@ -12,7 +13,7 @@ use crate::reader::head::Head;
 use crate::reader::progress::{Progress, Stage};
 use crate::reader::stop::Stop;
 use indexmap::IndexSet;
-use ir_syntax::{Function, Functions, Module};
+use ir_syntax::{Aliases, Function, Functions, Globals, Module, TypeDefs};
 use std::alloc::Global;
 
 /// The most functions of a text.
@@ -45,6 +46,18 @@ fn with_head<'a>(
         names,
         stage: Stage::Opened(head),
     })
+}
+
+/// The module of functions alone.
+fn module_of(alloc: Global, functions: Vec<Function>) -> Module
+    ensures { result ≡ module_of functions.items }
+{
+    Module {
+        types: TypeDefs::from_vec(Vec::new(alloc)),
+        globals: Globals::from_vec(Vec::new(alloc)),
+        functions: Functions::from_vec(functions),
+        aliases: Aliases::from_vec(Vec::new(alloc)),
+    }
 }
 
 impl<'a> Progress<'a> {
@@ -89,13 +102,11 @@ impl<'a> Progress<'a> {
     }
 
     /// The module of these functions, if none is in hand.
-    pub(crate) fn into_module(self) -> Option<Module>
+    pub(crate) fn into_module(self, alloc: Global) -> Option<Module>
         ensures { EndsAs (progress_of self.entry) result }
     {
         match self.stage {
-            Stage::Between => Some(Module {
-                functions: Functions::from_vec(self.functions),
-            }),
+            Stage::Between => Some(module_of(alloc, self.functions)),
             Stage::Opened(_) | Stage::Complete(_) => None,
         }
     }

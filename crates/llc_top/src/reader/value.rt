@@ -4,9 +4,10 @@ ghost use Rattle.llc_top.specs.Reading.{Gives, constant_of, is_small, value_of};
 ghost use Rattle.llc_top.specs.Tree.{literal_of};
 
 use crate::reader::param::has_param;
+use crate::reader::returned::Value;
 use crate::reader::stop::Stop;
 use crate::reader::word::after;
-use ir_syntax::{Identifier, Literal, Name, Operand, Param};
+use ir_syntax::{Identifier, Literal, Param};
 use itoa::Buffer;
 use std::alloc::Global;
 use std::str::from_utf8;
@@ -44,17 +45,19 @@ fn literal_of(number: i16) -> Literal
     }
 }
 
-/// The operand that a text spells, where these are the parameters.
+/// The value that a text spells, where these are the parameters.
 #[tactic(auto, unfolding(crate::specs::Reading::value_of))]
-pub(crate) fn value_of(alloc: Global, params: &[Param], text: &[u8]) -> Result<Operand, Stop>
+pub(crate) fn value_of(alloc: Global, params: &[Param], text: &[u8]) -> Result<Value, Stop>
     ensures { Gives (λ x. x) result (value_of params.now text.now) }
 {
     let Some(name) = after(text, b"%") else {
         let number = constant_of(text).ok_or(Stop::Refused)?;
-        return Ok(Operand::Int(literal_of(number)));
+        return Ok(Value::Number(literal_of(number)));
     };
     if !has_param(params, name) {
         return Err(Stop::Refused);
     }
-    Ok(Operand::Local(Name::Named(Identifier::from_vec(Vec::from_slice(alloc, name)?))))
+    Ok(Value::Parameter(Identifier::from_vec(Vec::from_slice(
+        alloc, name,
+    )?)))
 }
