@@ -1,5 +1,5 @@
 -- No text is both accepted and refused, and what is written is what the module allows.
-use Rattle.std.proofs.Common.{◌≡◌, ◌≤◌, ℕ, Bool, true, false, Option, Some, None, List, [], ◌∷◌, length, refl, ap, ◌∙◌, subst, arith, ◌&&◌, ◌||◌}
+use Rattle.std.proofs.Common.{◌≡◌, ◌≤◌, ℕ, Bool, true, false, Option, Some, None, List, [], ◌∷◌, length, refl, sym, ap, ◌∙◌, subst, arith, ◌&&◌, ◌||◌}
 use Rattle.std.specs.List.{list_any}
 use Rattle.std.specs.Io.KnownBytes.{Appends, Consumes}
 use Rattle.std.proofs.Math.Logic.{⊎_elim}
@@ -18,10 +18,10 @@ use Rattle.ir_syntax.specs.declared.refusal.Refusal.{Refusal}
 use Rattle.ir_syntax.specs.declared.refusal.Refusal.TheVariants as refusals
 use Rattle.llc_top.specs.Exact.{IsExact, Serves, Compiled, Ran}
 use Rattle.llc_top.specs.Main.{defines_main, has_main, is_defined_main, fits_main}
-use Rattle.llc_top.specs.Outcome.{Outcome, words_refused, read_failed, refuses, compiles, runs, status_of, out_due, err_due, HasReason, Answers, IsAccepted, IsFirstRefusal, TakesModule, TakesRefused, run_steps}
-use Rattle.llc_top.specs.Words.{mode_of}
-use Rattle.llc_top.specs.declared.command.Mode.{Mode}
-use Rattle.llc_top.specs.declared.command.Mode.TheVariants as modes
+use Rattle.llc_top.specs.Outcome.{Outcome, words_refused, read_failed, refuses, compiles, runs, status_of, out_due, err_due, HasReason, Answers, IsAccepted, IsFirstRefusal, TakesModule, TakesRefused}
+use Rattle.llc_words.specs.Commands.{Command, command_of}
+use Rattle.llc_words.specs.declared.types.Mode.{Mode}
+use Rattle.llc_words.specs.declared.types.Mode.TheVariants as modes
 use Rattle.llc_top.specs.declared.status.Status.{Status}
 use Rattle.llc_top.specs.declared.status.Status.TheVariants as statuses
 use Rattle.llc_top.proofs.Programs.{main_is, reads_program}
@@ -91,93 +91,110 @@ refused_first mode left left' bytes other told never = never
 taken_accepted : (left left' : Option (List ℕ)) (bytes : List ℕ) (m : Module) → left ≡ Some bytes → TakesModule left left' m → IsAccepted bytes m
 taken_accepted left left' bytes m told takes = subst (λ b. IsAccepted b m) (given left left' bytes takes.bytes told takes.gave) takes.accepted
 
-one_mode : (a b : Mode) (read : Option Mode) → read ≡ Some a → read ≡ Some b → a ≡ b
-one_mode a b read first second = cc
+one_command : (a b : Command) (read : Option Command) → read ≡ Some a → read ≡ Some b → a ≡ b
+one_command a b read first second = cc
+
+-- the modes of one reading
+one_mode : (a b : Command) (read : Option Command) → read ≡ Some a → read ≡ Some b → a.mode ≡ b.mode
+one_mode a b read first second = ap (λ (c : Command). c.mode) (one_command a b read first second)
 
 module _ (words : List (List ℕ)) (left left' : Option (List ℕ)) (faults faults' : ℕ) (out out' err err' : Option (List ℕ)) where
-  never_refused : (mode : Mode) (bytes : List ℕ) (m : Module) (outcome : Outcome) → mode_of words ≡ Some mode → left ≡ Some bytes →
-      IsAccepted bytes m → Serves mode m → HasReason words left left' faults faults' outcome → status_of outcome ≡ statuses.Refused → ⊥
-  never_refused mode bytes m words_refused asked told accepted serves reason is = cc
-  never_refused mode bytes m read_failed asked told accepted serves reason is = cc
-  never_refused mode bytes m (refuses refusal) asked told accepted serves (other, is_mode, takes) is =
-      accepted_apart mode bytes m refusal accepted serves
-      (subst (λ a. IsFirstRefusal a bytes refusal) (one_mode other mode (mode_of words) is_mode asked) (refused_first other left left' bytes refusal told takes))
-  never_refused mode bytes m (compiles other) asked told accepted serves reason is = cc
-  never_refused mode bytes m (runs other) asked told accepted serves reason is = cc
+  never_refused : (command : Command) (bytes : List ℕ) (m : Module) (outcome : Outcome) → command_of words ≡ Some command → left ≡ Some bytes →
+      IsAccepted bytes m → Serves command.mode m → HasReason words left left' faults faults' outcome → status_of outcome ≡ statuses.Refused → ⊥
+  never_refused command bytes m words_refused asked told accepted serves reason is = cc
+  never_refused command bytes m read_failed asked told accepted serves reason is = cc
+  never_refused command bytes m (refuses refusal) asked told accepted serves (other, is_other, takes) is =
+      accepted_apart command.mode bytes m refusal accepted serves
+      (subst (λ a. IsFirstRefusal a bytes refusal) (one_mode other command (command_of words) is_other asked)
+      (refused_first other.mode left left' bytes refusal told takes))
+  never_refused command bytes m (compiles other) asked told accepted serves reason is = cc
+  never_refused command bytes m (runs other m') asked told accepted serves reason is = cc
 
-  never_done : (mode : Mode) (bytes : List ℕ) (refusal : Refusal) (outcome : Outcome) → mode_of words ≡ Some mode → left ≡ Some bytes →
-      IsFirstRefusal mode bytes refusal → HasReason words left left' faults faults' outcome → status_of outcome ≡ statuses.Done → ⊥
-  never_done mode bytes refusal words_refused asked told refused reason is = cc
-  never_done mode bytes refusal read_failed asked told refused reason is = cc
-  never_done mode bytes refusal (refuses other) asked told refused reason is = cc
-  never_done mode bytes refusal (compiles m) asked told refused reason is =
-      accepted_apart mode bytes m refusal (taken_accepted left left' bytes m told reason.1)
-      (subst (λ a. Serves a m) (one_mode modes.Compile mode (mode_of words) reason.0 asked) tt) refused
-  never_done mode bytes refusal (runs m) asked told refused reason is =
-      accepted_apart mode bytes m refusal (taken_accepted left left' bytes m told reason.1)
-      (subst (λ a. Serves a m) (one_mode modes.Run mode (mode_of words) reason.0 asked) reason.2) refused
+  never_done : (command : Command) (bytes : List ℕ) (refusal : Refusal) (outcome : Outcome) → command_of words ≡ Some command → left ≡ Some bytes →
+      IsFirstRefusal command.mode bytes refusal → HasReason words left left' faults faults' outcome → status_of outcome ≡ statuses.Done → ⊥
+  never_done command bytes refusal words_refused asked told refused reason is = cc
+  never_done command bytes refusal read_failed asked told refused reason is = cc
+  never_done command bytes refusal (refuses other) asked told refused reason is = cc
+  never_done command bytes refusal (compiles m) asked told refused (other, is_other, compiling, takes) is =
+      accepted_apart command.mode bytes m refusal (taken_accepted left left' bytes m told takes)
+      (subst (λ a. Serves a m) (sym compiling ∙ one_mode other command (command_of words) is_other asked) tt) refused
+  never_done command bytes refusal (runs other m) asked told refused (is_other, running, takes, has) is =
+      accepted_apart command.mode bytes m refusal (taken_accepted left left' bytes m told takes)
+      (subst (λ a. Serves a m) (sym running ∙ one_mode other command (command_of words) is_other asked) has) refused
 
   -- an answer is exact
   pub answer_exact : (status : Status) → Answers (HasReason words left left' faults faults') status out out' err err' → IsExact words left status
   answer_exact status answer = record {
-    accepted = λ mode bytes m asked told accepted serves is.
+    accepted = λ command bytes m asked told accepted serves is.
         let at = subst (λ s. Answers (HasReason words left left' faults faults') s out out' err err') is answer in
-        never_refused mode bytes m at.0 asked told accepted serves at.1 at.2;
-    refusable = λ mode bytes refusal asked told refused is.
+        never_refused command bytes m at.0 asked told accepted serves at.1 at.2;
+    refusable = λ command bytes refusal asked told refused is.
         let at = subst (λ s. Answers (HasReason words left left' faults faults') s out out' err err') is answer in
-        never_done mode bytes refusal at.0 asked told refused at.1 at.2;
+        never_done command bytes refusal at.0 asked told refused at.1 at.2;
   }
 
-  compiled_by : (outcome : Outcome) → mode_of words ≡ Some modes.Compile → HasReason words left left' faults faults' outcome →
-      status_of outcome ≡ statuses.Done → Appends out out' (out_due outcome) → Compiled left left' out out'
-  compiled_by words_refused asked reason is results = absurd (cc)
-  compiled_by read_failed asked reason is results = absurd (cc)
-  compiled_by (refuses refusal) asked reason is results = absurd (cc)
-  compiled_by (compiles m) asked reason is results =
-      let program : IsProgram m = reads_program reason.1.bytes m reason.1.accepted.reads in
-      record {
-        compiled = m;
-        takes = reason.1;
-        wrote = results;
-        resolves = text_resolves m program.built;
-        assembled = part_assembles m program;
-        differ = part_differs m program;
-        allowed = λ has. let main = main_is m has in program_allowed m main.0 program main.1;
-      }
-  compiled_by (runs m) asked reason is results =
-      let same : modes.Run ≡ modes.Compile = one_mode modes.Run modes.Compile (mode_of words) reason.0 asked in absurd (cc)
+  module _ (command : Command) (asked : command_of words ≡ Some command) where
+    compiled_by : (outcome : Outcome) → command.mode ≡ modes.Compile → HasReason words left left' faults faults' outcome →
+        status_of outcome ≡ statuses.Done → Appends out out' (out_due outcome) → Compiled left left' out out'
+    compiled_by words_refused compiling reason is results = absurd (cc)
+    compiled_by read_failed compiling reason is results = absurd (cc)
+    compiled_by (refuses refusal) compiling reason is results = absurd (cc)
+    compiled_by (compiles m) compiling (other, is_other, asks, takes) is results =
+        let program : IsProgram m = reads_program takes.bytes m takes.accepted.reads in
+        record {
+          compiled = m;
+          takes = takes;
+          wrote = results;
+          resolves = text_resolves m program.built;
+          assembled = part_assembles m program;
+          differ = part_differs m program;
+          allowed = λ has. let main = main_is m has in program_allowed m main.0 program main.1;
+        }
+    compiled_by (runs other m) compiling (is_other, running, takes, has) is results =
+        let same : modes.Run ≡ modes.Compile = sym running ∙ one_mode other command (command_of words) is_other asked ∙ compiling in
+        absurd (cc)
 
-  ran_by : (outcome : Outcome) → mode_of words ≡ Some modes.Run → HasReason words left left' faults faults' outcome →
-      status_of outcome ≡ statuses.Done → Appends out out' (out_due outcome) → Appends err err' (err_due outcome) → Ran left left' out out' err err'
-  ran_by words_refused asked reason is results errors = absurd (cc)
-  ran_by read_failed asked reason is results errors = absurd (cc)
-  ran_by (refuses refusal) asked reason is results errors = absurd (cc)
-  ran_by (compiles m) asked reason is results errors =
-      let same : modes.Compile ≡ modes.Run = one_mode modes.Compile modes.Run (mode_of words) reason.0 asked in absurd (cc)
-  ran_by (runs m) asked reason is results errors =
-      let main = main_is m reason.2 in
-      let program : IsProgram m = reads_program reason.1.bytes m reason.1.accepted.reads in
-      record {
-        compiled = m;
-        takes = reason.1;
-        has_a_main = reason.2;
-        assembled = part_assembles m program;
-        resolved = part_resolves m main.0 program main.1;
-        wrote = results;
-        told = errors;
-        allowed = program_shows m main.0 program main.1 [] run_steps;
-      }
+    -- what was shown with the command that was read is what the module allows
+    shown_by : (m : Module) → TakesModule left left' m → has_main m ≡ true → Appends out out' (out_due (runs command m)) →
+        Appends err err' (err_due (runs command m)) → Ran command left left' out out' err err'
+    shown_by m takes has results errors =
+        let main = main_is m has in
+        let program : IsProgram m = reads_program takes.bytes m takes.accepted.reads in
+        record {
+          compiled = m;
+          takes = takes;
+          has_a_main = has;
+          assembled = part_assembles m program;
+          resolved = part_resolves m main.0 program main.1;
+          wrote = results;
+          told = errors;
+          allowed = program_shows m main.0 program main.1 command.input command.steps;
+        }
 
-  -- what was written resolves, and its image shows what the module allows
-  pub answer_compiled : (status : Status) → Answers (HasReason words left left' faults faults') status out out' err err' → status ≡ statuses.Done →
-      mode_of words ≡ Some modes.Compile → Compiled left left' out out'
-  answer_compiled status answer is asked =
-      let at = subst (λ s. Answers (HasReason words left left' faults faults') s out out' err err') is answer in
-      compiled_by at.0 asked at.1 at.2 at.3.results
+    ran_by : (outcome : Outcome) → command.mode ≡ modes.Run → HasReason words left left' faults faults' outcome →
+        status_of outcome ≡ statuses.Done → Appends out out' (out_due outcome) → Appends err err' (err_due outcome) →
+        Ran command left left' out out' err err'
+    ran_by words_refused running reason is results errors = absurd (cc)
+    ran_by read_failed running reason is results errors = absurd (cc)
+    ran_by (refuses refusal) running reason is results errors = absurd (cc)
+    ran_by (compiles m) running (other, is_other, compiling, takes) is results errors =
+        let same : modes.Compile ≡ modes.Run = sym compiling ∙ one_mode other command (command_of words) is_other asked ∙ running in
+        absurd (cc)
+    ran_by (runs other m) running (is_other, asks, takes, has) is results errors =
+        let same : other ≡ command = one_command other command (command_of words) is_other asked in
+        shown_by m takes has (subst (λ c. Appends out out' (out_due (runs c m))) same results)
+        (subst (λ c. Appends err err' (err_due (runs c m))) same errors)
 
-  -- what was shown is what the module allows
-  pub answer_ran : (status : Status) → Answers (HasReason words left left' faults faults') status out out' err err' → status ≡ statuses.Done →
-      mode_of words ≡ Some modes.Run → Ran left left' out out' err err'
-  answer_ran status answer is asked =
-      let at = subst (λ s. Answers (HasReason words left left' faults faults') s out out' err err') is answer in
-      ran_by at.0 asked at.1 at.2 at.3.results at.3.errors
+    -- what was written resolves, and its image shows what the module allows
+    pub answer_compiled : (status : Status) → Answers (HasReason words left left' faults faults') status out out' err err' → status ≡ statuses.Done →
+        command.mode ≡ modes.Compile → Compiled left left' out out'
+    answer_compiled status answer is compiling =
+        let at = subst (λ s. Answers (HasReason words left left' faults faults') s out out' err err') is answer in
+        compiled_by at.0 compiling at.1 at.2 at.3.results
+
+    -- what was shown is what the module allows
+    pub answer_ran : (status : Status) → Answers (HasReason words left left' faults faults') status out out' err err' → status ≡ statuses.Done →
+        command.mode ≡ modes.Run → Ran command left left' out out' err err'
+    answer_ran status answer is running =
+        let at = subst (λ s. Answers (HasReason words left left' faults faults') s out out' err err') is answer in
+        ran_by at.0 running at.1 at.2 at.3.results at.3.errors

@@ -8,8 +8,7 @@ use Rattle.ir_syntax.specs.declared.refusal.Refusal.TheVariants as refusals
 use Rattle.llc_top.specs.Main.{has_main}
 use Rattle.llc_top.specs.Outcome.{Outcome, words_refused, read_failed, refuses, compiles, runs, err_due, Answers, HasReason, IsAccepted, text_limit}
 use Rattle.llc_top.specs.Partial.{Told, ToldRefusal, Written, Executed, HasModuleReason, HasTextReason}
-use Rattle.llc_top.specs.Words.{mode_of}
-use Rattle.llc_top.specs.declared.command.Mode.{Mode}
+use Rattle.llc_words.specs.Commands.{Command, command_of}
 use Rattle.llc_top.specs.declared.status.Status.{Status}
 use Rattle.llc_top.specs.declared.status.Status.TheVariants as statuses
 
@@ -56,14 +55,14 @@ written_answer Reason m statuses.Words out out' err reason never = absurd never
 written_answer Reason m statuses.ReadFault out out' err reason never = absurd never
 
 -- a run on the machine, told or told in part
-pub executed_answer : (Reason : Outcome → Type 0) (m : Module) (status : Status) (out out' err err' : Option (List ℕ)) →
-    Reason (runs m) → Executed m status out out' err err' → Answers Reason status out out' err err'
-executed_answer Reason m statuses.Done out out' err err' reason told = (runs m, reason, refl, told)
-executed_answer Reason m statuses.WriteFault out out' err err' reason part = (runs m, reason, part)
-executed_answer Reason m statuses.NoMemory out out' err err' reason none = none
-executed_answer Reason m statuses.Refused out out' err err' reason never = absurd never
-executed_answer Reason m statuses.Words out out' err err' reason never = absurd never
-executed_answer Reason m statuses.ReadFault out out' err err' reason never = absurd never
+pub executed_answer : (Reason : Outcome → Type 0) (command : Command) (m : Module) (status : Status) (out out' err err' : Option (List ℕ)) →
+    Reason (runs command m) → Executed command m status out out' err err' → Answers Reason status out out' err err'
+executed_answer Reason command m statuses.Done out out' err err' reason told = (runs command m, reason, refl, told)
+executed_answer Reason command m statuses.WriteFault out out' err err' reason part = (runs command m, reason, part)
+executed_answer Reason command m statuses.NoMemory out out' err err' reason none = none
+executed_answer Reason command m statuses.Refused out out' err err' reason never = absurd never
+executed_answer Reason command m statuses.Words out out' err err' reason never = absurd never
+executed_answer Reason command m statuses.ReadFault out out' err err' reason never = absurd never
 
 -- an answer for some reason is one for any reason that follows from it
 pub answer-weaker : (Reason Weaker : Outcome → Type 0) (status : Status) (out out' err err' : Option (List ℕ)) →
@@ -76,29 +75,29 @@ answer-weaker Reason Weaker statuses.Words out out' err err' follows answer = (a
 answer-weaker Reason Weaker statuses.ReadFault out out' err err' follows answer = (answer.0, follows answer.0 answer.1, answer.2, answer.3)
 
 -- what a module comes to, its text comes to
-pub text_reason : (mode : Mode) (bytes : List ℕ) (m : Module) → IsAccepted bytes m → (outcome : Outcome) →
-    HasModuleReason mode m outcome → HasTextReason mode bytes outcome
-text_reason mode bytes m accepted words_refused never = never
-text_reason mode bytes m accepted read_failed never = never
-text_reason mode bytes m accepted (refuses refusals.NoMain) reason = (m, reason.0, accepted, reason.1)
-text_reason mode bytes m accepted (refuses refusals.BadMain) reason = (m, reason.0, accepted, reason.1, reason.2)
-text_reason mode bytes m accepted (refuses other) never = absurd never
-text_reason mode bytes m accepted (compiles other) reason = (reason.0, subst (IsAccepted bytes) (sym reason.1) accepted)
-text_reason mode bytes m accepted (runs other) reason =
-    (reason.0, subst (IsAccepted bytes) (sym reason.1) accepted, ap has_main reason.1 ∙ reason.2)
+pub text_reason : (command : Command) (bytes : List ℕ) (m : Module) → IsAccepted bytes m → (outcome : Outcome) →
+    HasModuleReason command m outcome → HasTextReason command bytes outcome
+text_reason command bytes m accepted words_refused never = never
+text_reason command bytes m accepted read_failed never = never
+text_reason command bytes m accepted (refuses refusals.NoMain) reason = (m, reason.0, accepted, reason.1)
+text_reason command bytes m accepted (refuses refusals.BadMain) reason = (m, reason.0, accepted, reason.1, reason.2)
+text_reason command bytes m accepted (refuses other) never = absurd never
+text_reason command bytes m accepted (compiles other) reason = (reason.0, subst (IsAccepted bytes) (sym reason.1) accepted)
+text_reason command bytes m accepted (runs asked other) reason =
+    (reason.0, reason.1, subst (IsAccepted bytes) (sym reason.2) accepted, ap has_main reason.2 ∙ reason.3)
 
 -- what the whole text of the source comes to, the run comes to
-pub whole_reason : (words : List (List ℕ)) (mode : Mode) (left left' : Option (List ℕ)) (faults faults' : ℕ) (bytes : List ℕ) → mode_of words ≡ Some mode →
+pub whole_reason : (words : List (List ℕ)) (command : Command) (left left' : Option (List ℕ)) (faults faults' : ℕ) (bytes : List ℕ) → command_of words ≡ Some command →
     GivesAll left left' bytes → length bytes ≤ text_limit → (outcome : Outcome) →
-    HasTextReason mode bytes outcome → HasReason words left left' faults faults' outcome
-whole_reason words mode left left' faults faults' bytes is gave short words_refused never = absurd never
-whole_reason words mode left left' faults faults' bytes is gave short read_failed never = absurd never
-whole_reason words mode left left' faults faults' bytes is gave short (refuses (refusals.TooLong taken)) long = absurd (omega (arith, short, long.0))
-whole_reason words mode left left' faults faults' bytes is gave short (refuses refusals.NoMain) reason = (mode, is, (bytes, gave, reason))
-whole_reason words mode left left' faults faults' bytes is gave short (refuses refusals.BadMain) reason = (mode, is, (bytes, gave, reason))
-whole_reason words mode left left' faults faults' bytes is gave short (refuses (refusals.NotYet line)) reason = (mode, is, (bytes, gave, reason))
-whole_reason words mode left left' faults faults' bytes is gave short (refuses other) never = absurd never
-whole_reason words mode left left' faults faults' bytes is gave short (compiles m) reason =
-    (is ∙ ap Some reason.0, record { bytes = bytes; gave = gave; accepted = reason.1 })
-whole_reason words mode left left' faults faults' bytes is gave short (runs m) reason =
-    (is ∙ ap Some reason.0, record { bytes = bytes; gave = gave; accepted = reason.1 }, reason.2)
+    HasTextReason command bytes outcome → HasReason words left left' faults faults' outcome
+whole_reason words command left left' faults faults' bytes is gave short words_refused never = absurd never
+whole_reason words command left left' faults faults' bytes is gave short read_failed never = absurd never
+whole_reason words command left left' faults faults' bytes is gave short (refuses (refusals.TooLong taken)) long = absurd (omega (arith, short, long.0))
+whole_reason words command left left' faults faults' bytes is gave short (refuses refusals.NoMain) reason = (command, is, (bytes, gave, reason))
+whole_reason words command left left' faults faults' bytes is gave short (refuses refusals.BadMain) reason = (command, is, (bytes, gave, reason))
+whole_reason words command left left' faults faults' bytes is gave short (refuses (refusals.NotYet line)) reason = (command, is, (bytes, gave, reason))
+whole_reason words command left left' faults faults' bytes is gave short (refuses other) never = absurd never
+whole_reason words command left left' faults faults' bytes is gave short (compiles m) reason =
+    (command, is, reason.0, record { bytes = bytes; gave = gave; accepted = reason.1 })
+whole_reason words command left left' faults faults' bytes is gave short (runs asked m) reason =
+    (is ∙ ap Some (sym reason.1), ap (λ (c : Command). c.mode) reason.1 ∙ reason.0, record { bytes = bytes; gave = gave; accepted = reason.2 }, reason.3)

@@ -7,15 +7,15 @@ use Rattle.cg_part.specs.Resolving.{Resolves}
 use Rattle.cg_part.specs.Text.{output_of, part_text}
 use Rattle.ir_syntax.specs.declared.module.Module.{Module}
 use Rattle.ir_syntax.specs.declared.refusal.Refusal.{Refusal}
+use Rattle.llc_words.specs.Commands.{Command, command_of}
+use Rattle.llc_words.specs.declared.types.Mode.{Mode}
+use Rattle.llc_words.specs.declared.types.Mode.TheVariants as modes
 use Rattle.obj_link.specs.Cause.{IsResolved}
 use Rattle.obj_link.specs.Names.{duplicates}
 use Rattle.rv_isa.specs.Lines.{ended}
 use Rattle.llc_top.specs.Main.{has_main}
-use Rattle.llc_top.specs.Outcome.{IsAccepted, IsFirstRefusal, TakesModule, program_run, run_steps}
+use Rattle.llc_top.specs.Outcome.{IsAccepted, IsFirstRefusal, TakesModule, program_run}
 use Rattle.llc_top.specs.Stops.{stop_text}
-use Rattle.llc_top.specs.Words.{mode_of}
-use Rattle.llc_top.specs.declared.command.Mode.{Mode}
-use Rattle.llc_top.specs.declared.command.Mode.TheVariants as modes
 use Rattle.llc_top.specs.declared.status.Status.{Status}
 use Rattle.llc_top.specs.declared.status.Status.TheVariants as statuses
 
@@ -26,10 +26,10 @@ Serves modes.Run m = has_main m ≡ true
 
 -- an accepted text is never refused, and one with a first refusal never done
 pub record IsExact (words : List (List ℕ)) (left : Option (List ℕ)) (status : Status) : Type 0 where
-  pub accepted : (mode : Mode) (bytes : List ℕ) (m : Module) → mode_of words ≡ Some mode → left ≡ Some bytes →
-      IsAccepted bytes m → Serves mode m → status ≢ statuses.Refused
-  pub refusable : (mode : Mode) (bytes : List ℕ) (refusal : Refusal) → mode_of words ≡ Some mode → left ≡ Some bytes →
-      IsFirstRefusal mode bytes refusal → status ≢ statuses.Done
+  pub accepted : (command : Command) (bytes : List ℕ) (m : Module) → command_of words ≡ Some command → left ≡ Some bytes →
+      IsAccepted bytes m → Serves command.mode m → status ≢ statuses.Refused
+  pub refusable : (command : Command) (bytes : List ℕ) (refusal : Refusal) → command_of words ≡ Some command → left ≡ Some bytes →
+      IsFirstRefusal command.mode bytes refusal → status ≢ statuses.Done
 
 -- The text of the source's module was written, and it resolves as the one part. It assembles, and no name of
 -- its object is one of the runtime's or defined twice. If the module has a `main`, its text links, and whatever
@@ -43,14 +43,14 @@ pub record Compiled (left left' out out' : Option (List ℕ)) : Type 0 where
   pub differ : duplicates (program_objects compiled) ≡ []
   pub allowed : has_main compiled ≡ true → RunsAllowed compiled (part_text compiled ∷ [])
 
--- The source's module was run: its text assembles and links, what the machine put out was written, how it ended
--- was told, and the module allows both.
-pub record Ran (left left' out out' err err' : Option (List ℕ)) : Type 0 where
+-- The source's module was run with the input and the steps of the command: its text assembles and links, what the
+-- machine put out was written, how it ended was told, and the module allows both.
+pub record Ran (command : Command) (left left' out out' err err' : Option (List ℕ)) : Type 0 where
   pub compiled : Module
   pub takes : TakesModule left left' compiled
   pub has_a_main : has_main compiled ≡ true
   pub assembled : Assembles (part_text compiled) (part_object compiled)
   pub resolved : IsResolved (program_objects compiled)
-  pub wrote : Appends out out' (program_run compiled).output
-  pub told : Appends err err' (ended (stop_text (program_run compiled).stop))
-  pub allowed : Allowed compiled (program_bytes compiled) (program_count compiled) [] run_steps
+  pub wrote : Appends out out' (program_run command compiled).output
+  pub told : Appends err err' (ended (stop_text (program_run command compiled).stop))
+  pub allowed : Allowed compiled (program_bytes compiled) (program_count compiled) command.input command.steps

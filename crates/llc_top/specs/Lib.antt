@@ -9,4 +9,3 @@ pub mod Reads
 pub mod Stops
 pub mod Tree
 pub mod Views
-pub mod Words

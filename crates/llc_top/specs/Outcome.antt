@@ -9,14 +9,14 @@ use Rattle.cg_part.specs.Text.{output_of}
 use Rattle.ir_syntax.specs.declared.module.Module.{Module}
 use Rattle.ir_syntax.specs.declared.refusal.Refusal.{Refusal}
 use Rattle.ir_syntax.specs.declared.refusal.Refusal.TheVariants as refusals
+use Rattle.llc_words.specs.Commands.{Command, command_of}
+use Rattle.llc_words.specs.declared.types.Mode.{Mode}
+use Rattle.llc_words.specs.declared.types.Mode.TheVariants as modes
 use Rattle.rv_isa.specs.Lines.{ended}
 use Rattle.rv_mach.specs.Run.{Shown, machine_run}
 use Rattle.llc_top.specs.Main.{defines_main, has_main}
 use Rattle.llc_top.specs.Reads.{Reads, IsRefusedLine}
 use Rattle.llc_top.specs.Stops.{stop_text}
-use Rattle.llc_top.specs.Words.{mode_of}
-use Rattle.llc_top.specs.declared.command.Mode.{Mode}
-use Rattle.llc_top.specs.declared.command.Mode.TheVariants as modes
 use Rattle.llc_top.specs.declared.status.Status.{Status}
 use Rattle.llc_top.specs.declared.status.Status.TheVariants as statuses
 
@@ -24,13 +24,9 @@ use Rattle.llc_top.specs.declared.status.Status.TheVariants as statuses
 abbrev pub text_limit : ℕ
 text_limit = 16777216
 
--- how many steps a run takes at most
-abbrev pub run_steps : ℕ
-run_steps = 100000000
-
--- what the machine shows of a module's program, with no input
-abbrev pub program_run : Module → Shown
-program_run m = machine_run (program_bytes m) [] run_steps
+-- what the machine shows of a module's program, with the input and the steps that the words ask for
+abbrev pub program_run : Command → Module → Shown
+program_run command m = machine_run (program_bytes m) command.input command.steps
 
 -- what a run comes to where memory lasts and no write fails
 pub data Outcome : Type 0 where
@@ -38,14 +34,14 @@ pub data Outcome : Type 0 where
   read_failed : Outcome
   refuses : Refusal → Outcome
   compiles : Module → Outcome
-  runs : Module → Outcome
+  runs : Command → Module → Outcome
 
 abbrev pub status_of : Outcome → Status
 status_of words_refused = statuses.Words
 status_of read_failed = statuses.ReadFault
 status_of (refuses refusal) = statuses.Refused
 status_of (compiles m) = statuses.Done
-status_of (runs m) = statuses.Done
+status_of (runs command m) = statuses.Done
 
 -- a refusal as it is printed: its number, its name and its fields
 abbrev pub refusal_text : Refusal → List ℕ
@@ -65,7 +61,7 @@ out_due words_refused = []
 out_due read_failed = []
 out_due (refuses refusal) = []
 out_due (compiles m) = output_of m
-out_due (runs m) = (program_run m).output
+out_due (runs command m) = (program_run command m).output
 
 -- what is due on the sink for errors
 abbrev pub err_due : Outcome → List ℕ
@@ -73,7 +69,7 @@ err_due words_refused = ended (codes "llc: words")
 err_due read_failed = ended (codes "llc: read fault")
 err_due (refuses refusal) = ended (refusal_text refusal)
 err_due (compiles m) = []
-err_due (runs m) = ended (stop_text (program_run m).stop)
+err_due (runs command m) = ended (stop_text (program_run command m).stop)
 
 -- a text that is not too long and reads as a module
 pub record IsAccepted (bytes : List ℕ) (m : Module) : Type 0 where
@@ -112,13 +108,14 @@ TakesRefused mode left left' other = ⊥
 -- why a run comes to this, by its words and by what its source had left, and how often it had failed, before
 -- and now
 abbrev pub HasReason : List (List ℕ) → Option (List ℕ) → Option (List ℕ) → ℕ → ℕ → Outcome → Type 0
-HasReason words left left' faults faults' words_refused = mode_of words ≡ None
-HasReason words left left' faults faults' read_failed = (mode_of words ≢ None) × Rose faults faults'
+HasReason words left left' faults faults' words_refused = command_of words ≡ None
+HasReason words left left' faults faults' read_failed = (command_of words ≢ None) × Rose faults faults'
 HasReason words left left' faults faults' (refuses refusal) =
-    (mode : Mode) × (mode_of words ≡ Some mode) × TakesRefused mode left left' refusal
-HasReason words left left' faults faults' (compiles m) = (mode_of words ≡ Some modes.Compile) × TakesModule left left' m
-HasReason words left left' faults faults' (runs m) =
-    (mode_of words ≡ Some modes.Run) × TakesModule left left' m × (has_main m ≡ true)
+    (command : Command) × (command_of words ≡ Some command) × TakesRefused command.mode left left' refusal
+HasReason words left left' faults faults' (compiles m) =
+    (command : Command) × (command_of words ≡ Some command) × (command.mode ≡ modes.Compile) × TakesModule left left' m
+HasReason words left left' faults faults' (runs command m) =
+    (command_of words ≡ Some command) × (command.mode ≡ modes.Run) × TakesModule left left' m × (has_main m ≡ true)
 
 -- the sinks got what is due
 pub record Tells (outcome : Outcome) (out out' err err' : Option (List ℕ)) : Type 0 where

@@ -6,11 +6,11 @@ use Rattle.cg_part.specs.Text.{output_of}
 use Rattle.ir_syntax.specs.declared.module.Module.{Module}
 use Rattle.ir_syntax.specs.declared.refusal.Refusal.{Refusal}
 use Rattle.ir_syntax.specs.declared.refusal.Refusal.TheVariants as refusals
+use Rattle.llc_words.specs.Commands.{Command}
+use Rattle.llc_words.specs.declared.types.Mode.TheVariants as modes
 use Rattle.rv_isa.specs.Lines.{ended}
 use Rattle.llc_top.specs.Main.{defines_main, has_main}
 use Rattle.llc_top.specs.Outcome.{Outcome, words_refused, read_failed, refuses, compiles, runs, Tells, TellsPart, refusal_text, IsAccepted, IsFirstRefusal}
-use Rattle.llc_top.specs.declared.command.Mode.{Mode}
-use Rattle.llc_top.specs.declared.command.Mode.TheVariants as modes
 use Rattle.llc_top.specs.declared.status.Status.{Status}
 use Rattle.llc_top.specs.declared.status.Status.TheVariants as statuses
 
@@ -24,13 +24,13 @@ Written m statuses.Words out out' = ⊥
 Written m statuses.ReadFault out out' = ⊥
 
 -- a module was run and all was told, or a first part of it, or memory ran out before
-abbrev pub Executed : Module → Status → Option (List ℕ) → Option (List ℕ) → Option (List ℕ) → Option (List ℕ) → Type 0
-Executed m statuses.Done out out' err err' = Tells (runs m) out out' err err'
-Executed m statuses.WriteFault out out' err err' = TellsPart (runs m) out out' err err'
-Executed m statuses.NoMemory out out' err err' = Appends out out' [] × Appends err err' []
-Executed m statuses.Refused out out' err err' = ⊥
-Executed m statuses.Words out out' err err' = ⊥
-Executed m statuses.ReadFault out out' err err' = ⊥
+abbrev pub Executed : Command → Module → Status → Option (List ℕ) → Option (List ℕ) → Option (List ℕ) → Option (List ℕ) → Type 0
+Executed command m statuses.Done out out' err err' = Tells (runs command m) out out' err err'
+Executed command m statuses.WriteFault out out' err err' = TellsPart (runs command m) out out' err err'
+Executed command m statuses.NoMemory out out' err err' = Appends out out' [] × Appends err err' []
+Executed command m statuses.Refused out out' err err' = ⊥
+Executed command m statuses.Words out out' err err' = ⊥
+Executed command m statuses.ReadFault out out' err err' = ⊥
 
 -- a line was told and the status due is answered, or a first part of it was told and the write failed
 abbrev pub Told : Status → Status → List ℕ → Option (List ℕ) → Option (List ℕ) → Type 0
@@ -47,19 +47,19 @@ ToldRefusal refusal statuses.Words err err' = ⊥
 ToldRefusal refusal statuses.ReadFault err err' = ⊥
 
 -- why a module comes to this
-abbrev pub HasModuleReason : Mode → Module → Outcome → Type 0
-HasModuleReason mode m words_refused = ⊥
-HasModuleReason mode m read_failed = ⊥
-HasModuleReason mode m (refuses refusals.NoMain) = (mode ≡ modes.Run) × (defines_main m ≡ false)
-HasModuleReason mode m (refuses refusals.BadMain) = (mode ≡ modes.Run) × (defines_main m ≡ true) × (has_main m ≡ false)
-HasModuleReason mode m (refuses other) = ⊥
-HasModuleReason mode m (compiles other) = (mode ≡ modes.Compile) × (other ≡ m)
-HasModuleReason mode m (runs other) = (mode ≡ modes.Run) × (other ≡ m) × (has_main m ≡ true)
+abbrev pub HasModuleReason : Command → Module → Outcome → Type 0
+HasModuleReason command m words_refused = ⊥
+HasModuleReason command m read_failed = ⊥
+HasModuleReason command m (refuses refusals.NoMain) = (command.mode ≡ modes.Run) × (defines_main m ≡ false)
+HasModuleReason command m (refuses refusals.BadMain) = (command.mode ≡ modes.Run) × (defines_main m ≡ true) × (has_main m ≡ false)
+HasModuleReason command m (refuses other) = ⊥
+HasModuleReason command m (compiles other) = (command.mode ≡ modes.Compile) × (other ≡ m)
+HasModuleReason command m (runs asked other) = (command.mode ≡ modes.Run) × (asked ≡ command) × (other ≡ m) × (has_main m ≡ true)
 
 -- why a text that is not too long comes to this
-abbrev pub HasTextReason : Mode → List ℕ → Outcome → Type 0
-HasTextReason mode bytes words_refused = ⊥
-HasTextReason mode bytes read_failed = ⊥
-HasTextReason mode bytes (refuses refusal) = IsFirstRefusal mode bytes refusal
-HasTextReason mode bytes (compiles m) = (mode ≡ modes.Compile) × IsAccepted bytes m
-HasTextReason mode bytes (runs m) = (mode ≡ modes.Run) × IsAccepted bytes m × (has_main m ≡ true)
+abbrev pub HasTextReason : Command → List ℕ → Outcome → Type 0
+HasTextReason command bytes words_refused = ⊥
+HasTextReason command bytes read_failed = ⊥
+HasTextReason command bytes (refuses refusal) = IsFirstRefusal command.mode bytes refusal
+HasTextReason command bytes (compiles m) = (command.mode ≡ modes.Compile) × IsAccepted bytes m
+HasTextReason command bytes (runs asked m) = (command.mode ≡ modes.Run) × (asked ≡ command) × IsAccepted bytes m × (has_main m ≡ true)

@@ -10,18 +10,22 @@ use crate::tell::tell_stop;
 use cg_io::Sink;
 use cg_part::program_of;
 use ir_syntax::Module;
+use llc_words::Command;
 use rv_mach::Machine;
 use std::alloc::Global;
 
-/// How many steps a run takes at most.
-const RUN_STEPS: u64 = 100_000_000;
-
-/// Runs a module that has a `main`, with no input: the machine's output goes to `out`, and how it ended is
-/// told on `err`.
-pub fn execute<O: Sink, E: Sink>(alloc: Global, m: &Module, out: &mut O, err: &mut E) -> Status
+/// Runs a module that has a `main`, with the input and the steps of the command: the machine's output goes to
+/// `out`, and how it ended is told on `err`.
+pub fn execute<O: Sink, E: Sink>(
+    alloc: Global,
+    command: &Command<'_>,
+    m: &Module,
+    out: &mut O,
+    err: &mut E,
+) -> Status
     requires program { IsProgram m.now }
     requires main { has_main m.now ≡ true }
-    ensures executed { Executed m.now result (O.written out.old) (O.written out.new)
+    ensures executed { Executed command.now m.now result (O.written out.old) (O.written out.new)
         (E.written err.old) (E.written err.new) }
     ensures fault { result ≡ Status.WriteFault →
         Rose (O.faults out.old) (O.faults out.new) ⊎ Rose (E.faults err.old) (E.faults err.new) }
@@ -34,7 +38,7 @@ pub fn execute<O: Sink, E: Sink>(alloc: Global, m: &Module, out: &mut O, err: &m
     let Ok(mut machine) = Machine::load(alloc, &image) else {
         return Status::NoMemory;
     };
-    let Ok(stop) = machine.run(RUN_STEPS, &[], out) else {
+    let Ok(stop) = machine.run(command.steps(), command.input(), out) else {
         return Status::WriteFault;
     };
     match tell_stop(err, stop) {

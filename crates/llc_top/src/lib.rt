@@ -2,7 +2,6 @@
 #![tactic(auto)]
 
 mod answer;
-mod command;
 mod compile;
 mod execute;
 mod reader;

@@ -4,15 +4,15 @@ ghost use Rattle.cg_io.specs.Faults.{Rose};
 ghost use Rattle.cg_io.specs.Told.{TakesAtMost};
 ghost use Rattle.llc_top.specs.Exact.{IsExact, Compiled, Ran};
 ghost use Rattle.llc_top.specs.Outcome.{Answers, HasReason, text_limit};
-ghost use Rattle.llc_top.specs.Words.{mode_of};
-ghost use Rattle.llc_top.specs.declared.command.Mode.TheVariants.{Compile, Run};
+ghost use Rattle.llc_words.specs.Commands.{Command, command_of};
+ghost use Rattle.llc_words.specs.declared.types.Mode.TheVariants.{Compile, Run};
 
 use crate::answer::{answer_line, answer_refusal};
-use crate::command::mode_in;
 use crate::serve::serve_text;
 use crate::status::Status;
 use cg_io::{ReadEnd, Sink, Source, read_all};
 use ir_syntax::Refusal;
+use llc_words::{WordsEnd, read_words};
 use std::alloc::Global;
 
 /// The most bytes that a module may have.
@@ -21,9 +21,9 @@ const TEXT_LIMIT: usize = 16_777_216;
 /// Runs the program: `words` are those of its command line, the program's name first.
 ///
 /// With `compile` it reads a module from `src`, to its end, and writes its assembly on `out`. With `run` it
-/// compiles the module, links it, and runs it on the machine for at most 100,000,000 steps: the machine's
-/// output goes to `out`, and a line that tells how it ended to `err`. A text that is refused is told on
-/// `err`, and leaves `out` without a byte.
+/// compiles the module, links it, and runs it on the machine, for at most as many steps as `--steps` says, or
+/// 100,000,000, and on the input that `--input` says, or none: the machine's output goes to `out`, and a line
+/// that tells how it ended to `err`. A text that is refused is told on `err`, and leaves `out` without a byte.
 pub fn run_llc<S: Source, O: Sink, E: Sink>(
     alloc: Global,
     words: &[String],
@@ -41,10 +41,10 @@ pub fn run_llc<S: Source, O: Sink, E: Sink>(
     // refusal never done.
     ensures exact { IsExact (map (λ word. string_bytes word) words.now) (S.left src.old) result }
 
-    // With other words nothing is read, and the answer is `Words` unless that can't be told.
-    ensures words { mode_of (map (λ word. string_bytes word) words.now) ≡ None →
-        (result ≡ Status.Words) ⊎ (result ≡ Status.WriteFault) }
-    ensures unread { mode_of (map (λ word. string_bytes word) words.now) ≡ None → src.new ≡ src.old }
+    // With other words nothing is read, and the answer is `Words` unless memory runs out or that can't be told.
+    ensures words { command_of (map (λ word. string_bytes word) words.now) ≡ None →
+        (result ≡ Status.Words) ⊎ (result ≡ Status.NoMemory) ⊎ (result ≡ Status.WriteFault) }
+    ensures unread { command_of (map (λ word. string_bytes word) words.now) ≡ None → src.new ≡ src.old }
 
     // Faults come only from the streams.
     ensures read_fault { result ≡ Status.ReadFault → Rose (S.faults src.old) (S.faults src.new) }
@@ -65,14 +65,14 @@ pub fn run_llc<S: Source, O: Sink, E: Sink>(
 
     // In the text that was written each symbol of the module stands once and none is missing; and its
     // linked image, on any input and for any number of steps, shows what the module's meaning allows.
-    ensures compiled { result ≡ Status.Done →
-        mode_of (map (λ word. string_bytes word) words.now) ≡ Some Compile →
+    ensures compiled { result ≡ Status.Done → (command : Command) →
+        command_of (map (λ word. string_bytes word) words.now) ≡ Some command → command.mode ≡ Compile →
         Compiled (S.left src.old) (S.left src.new) (O.written out.old) (O.written out.new) }
 
     // What the machine showed is what the module's meaning allows, and how it ended is told.
-    ensures ran { result ≡ Status.Done →
-        mode_of (map (λ word. string_bytes word) words.now) ≡ Some Run →
-        Ran (S.left src.old) (S.left src.new) (O.written out.old) (O.written out.new)
+    ensures ran { result ≡ Status.Done → (command : Command) →
+        command_of (map (λ word. string_bytes word) words.now) ≡ Some command → command.mode ≡ Run →
+        Ran command (S.left src.old) (S.left src.new) (O.written out.old) (O.written out.new)
         (E.written err.old) (E.written err.new) }
 {
     run_command(alloc, words, src, out, err)
@@ -90,9 +90,9 @@ fn run_command<S: Source, O: Sink, E: Sink>(
         (HasReason (map (λ word. string_bytes word) words.now) (S.left src.old) (S.left src.new)
         (S.faults src.old) (S.faults src.new))
         result (O.written out.old) (O.written out.new) (E.written err.old) (E.written err.new) }
-    ensures words { mode_of (map (λ word. string_bytes word) words.now) ≡ None →
-        (result ≡ Status.Words) ⊎ (result ≡ Status.WriteFault) }
-    ensures unread { mode_of (map (λ word. string_bytes word) words.now) ≡ None → src.new ≡ src.old }
+    ensures words { command_of (map (λ word. string_bytes word) words.now) ≡ None →
+        (result ≡ Status.Words) ⊎ (result ≡ Status.NoMemory) ⊎ (result ≡ Status.WriteFault) }
+    ensures unread { command_of (map (λ word. string_bytes word) words.now) ≡ None → src.new ≡ src.old }
     ensures read_fault { result ≡ Status.ReadFault → Rose (S.faults src.old) (S.faults src.new) }
     ensures write_fault { result ≡ Status.WriteFault →
         Rose (O.faults out.old) (O.faults out.new) ⊎ Rose (E.faults err.old) (E.faults err.new) }
@@ -104,11 +104,13 @@ fn run_command<S: Source, O: Sink, E: Sink>(
     ensures untouched { (result ≡ Status.Done) ⊎ (result ≡ Status.NoMemory) ⊎ (result ≡ Status.WriteFault) ⊎
         (out.new ≡ out.old) }
 {
-    let Some(mode) = mode_in(words) else {
-        return answer_line(err, b"llc: words\n", Status::Words);
+    let command = match read_words(alloc, words) {
+        Ok(command) => command,
+        Err(WordsEnd::Refused) => return answer_line(err, b"llc: words\n", Status::Words),
+        Err(WordsEnd::NoMemory) => return Status::NoMemory,
     };
     match read_all(alloc, src, TEXT_LIMIT) {
-        Ok(text) => serve_text(alloc, mode, &text, out, err),
+        Ok(text) => serve_text(alloc, &command, &text, out, err),
         Err(ReadEnd::TooLong { taken }) => answer_refusal(
             err,
             Refusal::TooLong {

@@ -6,7 +6,6 @@ ghost use Rattle.llc_top.specs.Outcome.{Answers, text_limit};
 ghost use Rattle.llc_top.specs.Partial.{HasTextReason, HasModuleReason};
 
 use crate::answer::answer_refusal;
-use crate::command::Mode;
 use crate::compile::write_output;
 use crate::execute::execute;
 use crate::reader::{ReadError, read_module};
@@ -14,18 +13,19 @@ use crate::start::{defines_a_main, has_a_main};
 use crate::status::Status;
 use cg_io::Sink;
 use ir_syntax::{Module, Refusal};
+use llc_words::{Command, Mode};
 use std::alloc::Global;
 
-/// Does with a text what the mode says, or tells on `err` why it is refused.
+/// Does with a text what the command says, or tells on `err` why it is refused.
 pub fn serve_text<O: Sink, E: Sink>(
     alloc: Global,
-    mode: Mode,
+    command: &Command<'_>,
     text: &[u8],
     out: &mut O,
     err: &mut E,
 ) -> Status
     requires { length text.now ≤ text_limit }
-    ensures answer { Answers (HasTextReason mode text.now) result
+    ensures answer { Answers (HasTextReason command.now text.now) result
         (O.written out.old) (O.written out.new) (E.written err.old) (E.written err.new) }
     ensures fault { result ≡ Status.WriteFault →
         Rose (O.faults out.old) (O.faults out.new) ⊎ Rose (E.faults err.old) (E.faults err.new) }
@@ -35,7 +35,7 @@ pub fn serve_text<O: Sink, E: Sink>(
         (out.new ≡ out.old) }
 {
     match read_module(alloc, text) {
-        Ok(m) => serve_module(alloc, mode, &m, out, err),
+        Ok(m) => serve_module(alloc, command, &m, out, err),
         Err(ReadError::NotYet { line }) => answer_refusal(err, Refusal::NotYet { line }),
         Err(ReadError::NoMemory) => Status::NoMemory,
     }
@@ -43,13 +43,13 @@ pub fn serve_text<O: Sink, E: Sink>(
 
 fn serve_module<O: Sink, E: Sink>(
     alloc: Global,
-    mode: Mode,
+    command: &Command<'_>,
     m: &Module,
     out: &mut O,
     err: &mut E,
 ) -> Status
     requires { IsProgram m.now }
-    ensures answer { Answers (HasModuleReason mode m.now) result
+    ensures answer { Answers (HasModuleReason command.now m.now) result
         (O.written out.old) (O.written out.new) (E.written err.old) (E.written err.new) }
     ensures fault { result ≡ Status.WriteFault →
         Rose (O.faults out.old) (O.faults out.new) ⊎ Rose (E.faults err.old) (E.faults err.new) }
@@ -58,7 +58,7 @@ fn serve_module<O: Sink, E: Sink>(
     ensures untouched { (result ≡ Status.Done) ⊎ (result ≡ Status.NoMemory) ⊎ (result ≡ Status.WriteFault) ⊎
         (out.new ≡ out.old) }
 {
-    match mode {
+    match command.mode() {
         Mode::Compile => write_output(alloc, m, out),
         Mode::Run => {
             if !defines_a_main(m) {
@@ -67,7 +67,7 @@ fn serve_module<O: Sink, E: Sink>(
             if !has_a_main(m) {
                 return answer_refusal(err, Refusal::BadMain);
             }
-            execute(alloc, m, out, err)
+            execute(alloc, command, m, out, err)
         }
     }
 }

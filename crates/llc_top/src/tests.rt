@@ -151,12 +151,39 @@ fn a_main_is_run_to_its_exit(rt: HostRuntime) -> Result<(), Fail> {
     Ok(())
 }
 
+/// Words that ask for a run of a `main` that takes nine steps, and the line that tells how it ended.
+const STEPS: [(&[&str], &str); 5] = [
+    (&["llc", "run", "--steps", "0"], "running\n"),
+    (&["llc", "run", "--steps=8"], "running\n"),
+    (&["llc", "run", "--steps=9"], "exit 4294967289\n"),
+    (&["llc", "--steps", "1000000000", "run"], "exit 4294967289\n"),
+    (&["llc", "run", "--input", "ä"], "exit 4294967289\n"),
+];
+
+#[test]
+fn a_run_takes_the_steps_that_the_words_ask_for(rt: HostRuntime) -> Result<(), Fail> {
+    for (words, err) in STEPS {
+        let told = run_words(&rt, words, b"define i32 @main() {\n  ret i32 -7\n}\n")?;
+        assert_eq!(rt; told.status, Status::Done, "{err}");
+        assert_eq!(rt; told.err.as_slice(), err.as_bytes(), "{err}");
+        assert_eq!(rt; told.out.len(), 0, "{err}");
+    }
+    Ok(())
+}
+
 #[test]
 fn other_words_are_refused(rt: HostRuntime) -> Result<(), Fail> {
     assert!(rt; are_refused(&rt, ["llc", "compile", "x"].as_slice())?);
-    assert!(rt; are_refused(&rt, ["llc", "Compile"].as_slice())?);
+    assert!(rt; are_refused(&rt, ["llc", "compile", "--steps", "1000000001"].as_slice())?);
+    assert!(rt; are_refused(&rt, ["llc", "run", "--parts", "2"].as_slice())?);
     assert!(rt; are_refused(&rt, ["llc"].as_slice())?);
     assert!(rt; are_refused(&rt, [].as_slice())?);
+    let told = run_words(
+        &rt,
+        ["llc", "compile", "--steps=5"].as_slice(),
+        ARGUMENT.as_bytes(),
+    )?;
+    assert_eq!(rt; told.status, Status::Done);
     Ok(())
 }
 

@@ -10,7 +10,7 @@ serve_module-requires g c = reads_program c.args.text.now c.in-Ok.m c.in-Ok.ensu
 
 pub returns-in-Err-NotYet-clause-answer : goal.returns-in-Err-NotYet-clause-answer
 returns-in-Err-NotYet-clause-answer g c =
-    refusal_answer (HasTextReason c.args.mode c.args.text.now) _ _ _ (refusals.NotYet c.in-Err-NotYet.line) c.answer_refusal.result
+    refusal_answer (HasTextReason c.args.command.now c.args.text.now) _ _ _ (refusals.NotYet c.in-Err-NotYet.line) c.answer_refusal.result
     (c.requires, rw c.in-Err-NotYet.field-0-is at c.in-Err-NotYet.ensures.refused)
     (subst
     (λ (line : ℕ). ToldRefusal (refusals.NotYet line) c.answer_refusal.result (g.E.Sink.written c.args.err.now) (g.E.Sink.written c.answer_refusal.new.err))
