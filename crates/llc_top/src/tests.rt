@@ -156,7 +156,10 @@ const STEPS: [(&[&str], &str); 5] = [
     (&["llc", "run", "--steps", "0"], "running\n"),
     (&["llc", "run", "--steps=8"], "running\n"),
     (&["llc", "run", "--steps=9"], "exit 4294967289\n"),
-    (&["llc", "--steps", "1000000000", "run"], "exit 4294967289\n"),
+    (
+        &["llc", "--steps", "1000000000", "run"],
+        "exit 4294967289\n",
+    ),
     (&["llc", "run", "--input", "ä"], "exit 4294967289\n"),
 ];
 

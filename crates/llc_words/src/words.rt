@@ -21,7 +21,8 @@ const MOST_STEPS: u64 = 1_000_000_000;
 ///
 /// Errors: `Refused` where the words ask for nothing that the program does, and `NoMemory`.
 pub fn read_words<'a>(alloc: Global, words: &'a [String]) -> Result<Command<'a>, WordsEnd>
-    ensures asked { IfOk result (λ command. command_of (map (λ word. string_bytes word) words.now) ≡ Some command) }
+    ensures asked { IfOk result (λ command.
+        command_of (map (λ word. string_bytes word) words.now) ≡ Some command) }
     ensures refused { IsErrOf result WordsEnd.Refused → command_of (map (λ word. string_bytes word) words.now) ≡ None }
 {
     let Ok(command) = syntax(alloc) else {

@@ -1,4 +1,4 @@
-use Rattle.std.proofs.Common.{◌≡◌, ◌∙◌, [], ap, inl, inr, subst}
+use Rattle.std.proofs.Common.{◌≡◌, ◌∙◌, ap, inl, inr, subst}
 use Rattle.std.specs.Io.KnownBytes.{Appends}
 use Rattle.cg_io.specs.Told.{AppendsPrefix}
 use Rattle.std.proofs.KnownBytes.{Appends-nil}
@@ -19,8 +19,11 @@ program_of-requires-clause-main g c = main_is c.args.m.now c.requires.main
 pub returns-in_default-run-clause-executed : goal.returns-in_default-run-clause-executed
 returns-in_default-run-clause-executed g c =
     let is : c.in-Ok-load.machine ≡ start (program_bytes c.args.m.now) = c.in-Ok-load.ensures ∙ ap start c.in-Ok.ensures.bytes in
-    inl (cut_off_part c.args.command.now.input c.args.command.now.steps _ _ (start (program_bytes c.args.m.now)) _ _ is
-    (rw (c.input.ensures, c.steps.ensures) at c.in_default-run.ensures.cut_off), Appends-nil _)
+    inl (
+      cut_off_part c.args.command.now.input c.args.command.now.steps _ _ (start (program_bytes c.args.m.now)) _ _ is
+          (rw (c.input.ensures, c.steps.ensures) at c.in_default-run.ensures.cut_off),
+      Appends-nil _,
+    )
 
 pub returns-in-Ok-tell_stop-clause-executed : goal.returns-in-Ok-tell_stop-clause-executed
 returns-in-Ok-tell_stop-clause-executed g c =
@@ -44,7 +47,7 @@ returns-clause-executed g c =
     ∙ ap (λ (m : State). (run_of c.args.command.now.input c.args.command.now.steps m).machine.stop) is in
     inr (
       subst (λ (m : State). Appends (g.O.Sink.written c.args.out.now) (g.O.Sink.written c.run.new.out)
-      (run_of c.args.command.now.input c.args.command.now.steps m).output) is
+          (run_of c.args.command.now.input c.args.command.now.steps m).output) is
           (rw (c.input.ensures, c.steps.ensures) at c.in-Ok-run.ensures.output),
       subst (λ (s : Stop). AppendsPrefix (g.E.Sink.written c.args.err.now) (g.E.Sink.written c.tell_stop.new.err) (ended (stop_text s))) stop
           c.tell_stop.ensures.prefix,
