@@ -1,0 +1,4 @@
+pub mod Classes
+pub mod Intrinsics
+pub mod Lexemes
+pub mod Words
