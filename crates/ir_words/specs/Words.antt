@@ -1,5 +1,5 @@
 -- The words of LLVM IR that have a class of their own, and the ones that are not compiled.
-use Rattle.std.specs.Prelude.{ℕ, Bool, not, ◌&&◌, ◌==◌, nat_le, List, [], ◌∷◌, ◌++◌, codes, drop, length, map, slice_index, if◌then◌else◌}
+use Rattle.std.specs.Prelude.{ℕ, Bool, not, ◌&&◌, ◌==◌, nat_le, List, [], ◌∷◌, ◌++◌, codes, drop, filter, length, map, slice_index, if◌then◌else◌}
 use Rattle.std.specs.List.{list_all}
 use Rattle.std.specs.Str.{bytes_eq}
 use Rattle.ir_lex.specs.Characters.{is_digit}
@@ -141,6 +141,10 @@ unsupported_words =
 -- every word with its class
 abbrev pub words : List Entry
 words = entities ++ linkages ++ types_and_values ++ operations ++ map (λ word. (word, Unsupported)) unsupported_words
+
+-- the entries of a table whose words begin with a byte
+abbrev pub beginning : ℕ → List Entry → List Entry
+beginning byte = filter (λ entry. slice_index entry.0 0 == byte)
 
 -- the class of a word in a table, or another where the table doesn't have it
 abbrev pub looked_up : List Entry → List ℕ → Class → Class

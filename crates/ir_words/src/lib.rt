@@ -3,6 +3,16 @@
 
 mod class;
 mod equality;
+mod front;
+mod global;
+mod lexeme;
+mod rest;
+mod slice;
+mod table;
+mod width;
+mod word;
 
 pub use class::Class;
 pub use equality::is_same;
+pub use lexeme::{class_in, is_table};
+pub use rest::Rest;
