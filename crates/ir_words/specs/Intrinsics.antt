@@ -2,6 +2,7 @@
 use Rattle.std.specs.Prelude.{ℕ, ◌-◌, Bool, ◌&&◌, ◌==◌, List, [], ◌∷◌, codes, drop, length, slice_index, take, if◌then◌else◌}
 use Rattle.std.specs.List.{list_any}
 use Rattle.std.specs.Str.{bytes_eq}
+use Rattle.ir_lex.specs.Escapes.{unescaped}
 use Rattle.ir_words.specs.Words.{Entry, is_width, looked_up}
 use Rattle.ir_words.specs.declared.class.Class.{Class}
 use Rattle.ir_words.specs.declared.class.Class.TheVariants.{Global, MetadataIntrinsic, DroppedIntrinsic, Intrinsic, UnknownIntrinsic}
@@ -39,9 +40,9 @@ intrinsic_class name =
     else if is_sized sized name then Intrinsic
     else looked_up named name UnknownIntrinsic
 
--- the name of a global: what stands after `@`, without its quotes
+-- the name of a global: what stands after `@`, without its quotes and with its escapes read
 unfoldable pub global_name : List ℕ → List ℕ
-global_name text = if slice_index text 1 == 34 then take (length text - 3) (drop 2 text) else drop 1 text
+global_name text = if slice_index text 1 == 34 then unescaped (take (length text - 3) (drop 2 text)) else drop 1 text
 
 unfoldable pub name_class : List ℕ → Class
 name_class name = if begins_with (codes "llvm.") name then intrinsic_class name else Global

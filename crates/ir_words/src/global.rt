@@ -1,9 +1,11 @@
 //! The class of a global, by its name (LangRef, "Identifiers" and "Intrinsic Functions").
 ghost use Rattle.std.specs.Prelude.{◌≡◌, codes, map};
 ghost use Rattle.ir_words.specs.Words.{looked_up};
+ghost use Rattle.ir_lex.specs.Escapes.{unescaped};
 ghost use Rattle.ir_words.specs.Intrinsics.{begins_with, intrinsic_class, global_class, is_sized, name_class, named, sized};
 
 use crate::class::Class;
+use crate::quoted::{TELLING, unescape};
 use crate::slice::{byte_at, front_of, rest_of};
 use crate::width::is_width;
 use crate::word::looked_up;
@@ -101,13 +103,22 @@ pub(crate) fn name_class(name: &[u8]) -> Class
     }
 }
 
+/// The class of a name in quotes.
+fn quoted_class(quoted: &[u8]) -> Class
+    ensures { result ≡ name_class (unescaped quoted.now) }
+{
+    let mut name = [0; TELLING];
+    let len = unescape(quoted, &mut name);
+    name_class(front_of(&name, len))
+}
+
 /// The class of a global.
 #[tactic(auto, unfolding(crate::specs::Intrinsics::global_class, crate::specs::Intrinsics::global_name))]
 pub(crate) fn global_class(text: &[u8]) -> Class
     ensures { result ≡ global_class text.now }
 {
     if byte_at(text, 1) == b'"' {
-        name_class(front_of(rest_of(text, 2), text.len().saturating_sub(3)))
+        quoted_class(front_of(rest_of(text, 2), text.len().saturating_sub(3)))
     } else {
         name_class(rest_of(text, 1))
     }

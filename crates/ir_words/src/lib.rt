@@ -6,6 +6,7 @@ mod equality;
 mod front;
 mod global;
 mod lexeme;
+mod quoted;
 mod rest;
 mod slice;
 mod table;
