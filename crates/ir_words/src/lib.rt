@@ -10,6 +10,8 @@ mod quoted;
 mod rest;
 mod slice;
 mod table;
+#[cfg(test)]
+mod tests;
 mod width;
 mod word;
 
