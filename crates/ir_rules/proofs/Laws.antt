@@ -1,0 +1,265 @@
+-- The laws of a rule, and that each combinator keeps them.
+use Rattle.std.proofs.Common.{◌≡◌, ℕ, zero, suc, ◌+◌, ◌-◌, ◌<◌, ◌≤◌, Bool, true, false, ◌&&◌, ◌||◌, ◌==◌, not, List, [], ◌∷◌, ◌++◌, Ok, Err, Some, None, arith, ap, append_assoc, inl, inr, length, refl, subst, sym, ◌∙◌, if◌then◌else◌}
+use Rattle.std.specs.Prelude.{◌⊎◌, Option}
+use Rattle.std.proofs.lemmas.List.{append-nil, length-append}
+use Rattle.ir_words.specs.Classes.{class_of, first, number}
+use Rattle.ir_words.specs.Lexemes.{Lexeme}
+use Rattle.ir_words.specs.declared.class.Class.{Class}
+use Rattle.ir_words.specs.declared.class.Class.TheVariants as Classes
+use Rattle.ir_rules.specs.Rules.{Answer, Rule, ◌>>=◌, all_in, apart, begins, chain, chain_read, chain_text, each, either, has, is_word, made, nothing, one_of, one_read, seq, token, when, with_item, within, word}
+use Rattle.ir_rules.proofs.Sets.{apart_back, apart_is, has_left, has_right, has_same, head, head-append, not_left, not_right, not_within, same_begins, same_number, within_is}
+
+-- What an answer says of the tokens, for a rule and for it alone: a text and the rest, or a front of
+-- a text and the bad token, and the same of any tokens that go on with an equal one.
+abbrev pub Splits : {A : Type 0} → Rule A → List Lexeme → Answer A → Type 0
+Splits r ts (Ok p) =
+    (us : List Lexeme) × (ts ≡ us ++ p.1) × r.text us p.0 × ((vs : List Lexeme) → head p.1 ≡ head vs → r.read (us ++ vs) ≡ Ok (p.0, vs))
+Splits {A} r ts (Err n) =
+    (us : List Lexeme) × (bad : List Lexeme) × (more : List Lexeme) × (x : A) × (ts ≡ us ++ bad) × (n ≡ length bad) × r.text (us ++ more) x
+    × ((vs : List Lexeme) → head bad ≡ head vs → r.read (us ++ vs) ≡ Err (length vs))
+
+pub record Lawful {A : Type 0} (r : Rule A) : Type 0 where
+  -- it reads a text or stops at a bad token, by the next token alone
+  pub splits : (ts : List Lexeme) → Splits r ts (r.read ts)
+  -- it reads each text that no token goes on
+  pub complete : (us vs : List Lexeme) (x : A) → r.text us x → begins r.goes vs ≡ false → r.read (us ++ vs) ≡ Ok (x, vs)
+  -- it has a text
+  pub some : (us : List Lexeme) × (x : A) × r.text us x
+  pub first : (t : Lexeme) (ts : List Lexeme) (x : A) → r.text (t ∷ ts) x → has r.starts (class_of t) ≡ true
+  pub may_be_empty : (x : A) → r.text [] x → r.empty ≡ true
+
+-- one token
+
+module _ {A : Type 0} (cs : List Class) (f : Lexeme → Option A) where
+  token_splits_at : (t : Lexeme) (ts : List Lexeme) (o : Option A) → f t ≡ o → (t0 : Lexeme) (x0 : A) → f t0 ≡ Some x0
+      → Splits (token cs f) (t ∷ ts) (one_read o ts (suc (length ts)))
+  token_splits_at t ts (Some x) e t0 x0 k = (t ∷ [], refl, (t, refl, e), λ vs h. ap (λ o. one_read o vs (suc (length vs))) e)
+  token_splits_at t ts None e t0 x0 k = ([], t ∷ ts, t0 ∷ [], x0, refl, refl, (t0, refl, k), λ vs h. again vs h)
+    where
+      again : (vs : List Lexeme) → head (t ∷ ts) ≡ head vs → one_of f vs ≡ Err (length vs)
+      again [] h = absurd (cc)
+      again (v ∷ vs) h = ap (λ o. one_read o vs (suc (length vs))) (ap f same ∙ e)
+        where
+          same : v ≡ t
+          same = cc
+
+  pub token_lawful : ((t : Lexeme) (x : A) → f t ≡ Some x → has cs (class_of t) ≡ true) → (t0 : Lexeme) (x0 : A) → f t0 ≡ Some x0 → Lawful (token cs f)
+  token_lawful known t0 x0 k = record {
+    splits = splits;
+    complete = complete;
+    some = (t0 ∷ [], x0, (t0, refl, k));
+    first = λ t ts x w. known t x (ap f (same t w.0 ts w.1) ∙ w.2);
+    may_be_empty = λ x w. absurd (nothing_there w.0 w.1);
+  }
+    where
+      same : (t u : Lexeme) (ts : List Lexeme) → t ∷ ts ≡ u ∷ [] → t ≡ u
+      same t u ts e = cc
+
+      nothing_there : (t : Lexeme) → [] ≡ t ∷ [] → ⊥
+      nothing_there t e = cc
+
+      splits : (ts : List Lexeme) → Splits (token cs f) ts (one_of f ts)
+      splits [] = ([], [], t0 ∷ [], x0, refl, refl, (t0, refl, k), λ vs h. again vs h)
+        where
+          again : (vs : List Lexeme) → head [] ≡ head vs → one_of f vs ≡ Err (length vs)
+          again [] h = refl
+          again (v ∷ vs) h = absurd (cc)
+      splits (t ∷ ts) = token_splits_at t ts (f t) refl t0 x0 k
+
+      complete : (us vs : List Lexeme) (x : A) → (token cs f).text us x → begins [] vs ≡ false → one_of f (us ++ vs) ≡ Ok (x, vs)
+      complete us vs x w g = ap (λ us. one_of f (us ++ vs)) w.1 ∙ ap (λ o. one_read o vs (suc (length vs))) w.2
+
+-- a word: t is one
+pub word_lawful : (class : Class) (t : Lexeme) → is_word class t ≡ Some tt → has (class ∷ []) class ≡ true → Lawful (word class)
+word_lawful class t k e = token_lawful (class ∷ []) (is_word class) (λ u x h. known u x (number class == number (class_of u)) refl h) t tt k
+  where
+    known : (u : Lexeme) (x : Unit {0}) (b : Bool) → (number class == number (class_of u)) ≡ b → (if b then Some tt else None) ≡ Some x
+        → has (class ∷ []) (class_of u) ≡ true
+    known u x true is h = sym (has_same (class ∷ []) class (class_of u) (same_number class (class_of u) is)) ∙ e
+    known u x false is h = absurd (cc)
+
+-- no token
+
+pub nothing_lawful : {A : Type 0} (x : A) → Lawful (nothing x)
+nothing_lawful {A} x = record {
+  splits = λ ts. ([], refl, (refl, refl), λ vs h. refl);
+  complete = λ us vs y w g. ap (λ us. Ok (x, us ++ vs)) w.0 ∙ ap (λ y. Ok (y, vs)) w.1;
+  some = ([], x, (refl, refl));
+  first = λ t ts y w. absurd (none t ts w.0);
+  may_be_empty = λ y w. refl;
+}
+  where
+    none : (t : Lexeme) (ts : List Lexeme) → t ∷ ts ≡ [] → ⊥
+    none t ts e = cc
+
+-- other trees
+
+module _ {A B : Type 0} (f : A → B) (a : Rule A) where
+  made_splits : (ts : List Lexeme) (o : Answer A) → Splits a ts o → Splits (made f a) ts (o >>= (λ (p : A × List Lexeme). Ok (f p.0, p.1)))
+  made_splits ts (Ok p) w = (w.0, w.1, (p.0, w.2, refl), λ vs h. ap (λ o. o >>= (λ (p : A × List Lexeme). Ok (f p.0, p.1))) (w.3 vs h))
+  made_splits ts (Err n) w =
+      (w.0, w.1, w.2, f w.3, w.4, w.5, (w.3, w.6, refl), λ vs h. ap (λ o. o >>= (λ (p : A × List Lexeme). Ok (f p.0, p.1))) (w.7 vs h))
+
+  pub made_lawful : Lawful a → Lawful (made f a)
+  made_lawful la = record {
+    splits = λ ts. made_splits ts (a.read ts) (la.splits ts);
+    complete = λ us vs y w g. ap (λ o. o >>= (λ (p : A × List Lexeme). Ok (f p.0, p.1))) (la.complete us vs w.0 w.1 g) ∙ ap (λ y. Ok (y, vs)) w.2;
+    some = (la.some.0, f la.some.1, (la.some.1, la.some.2, refl));
+    first = λ t ts y w. la.first t ts w.0 w.1;
+    may_be_empty = λ y w. la.may_be_empty w.0 w.1;
+  }
+
+-- sets stated
+
+module _ {A : Type 0} (starts goes : List Class) (empty : Bool) (r : Rule A) where
+  within_splits : (ts : List Lexeme) (o : Answer A) → Splits r ts o → Splits (within starts goes empty r) ts o
+  within_splits ts (Ok p) w = w
+  within_splits ts (Err n) w = w
+
+  pub within_lawful : Lawful r → all_in r.starts starts ≡ true → all_in r.goes goes ≡ true → (r.empty && empty) ≡ r.empty → Lawful (within starts goes empty r)
+  within_lawful lr s g e = record {
+    splits = λ ts. within_splits ts (r.read ts) (lr.splits ts);
+    complete = λ us vs x w n. lr.complete us vs x w (not_within r.goes goes (first vs) g n);
+    some = lr.some;
+    first = λ t ts x w. within_is r.starts starts (class_of t) s (lr.first t ts x w);
+    may_be_empty = λ x w. go r.empty empty e (lr.may_be_empty x w);
+  }
+    where
+      go : (b e : Bool) → (b && e) ≡ b → b ≡ true → e ≡ true
+      go true e h k = h
+      go false e h k = absurd (cc)
+
+-- one after the other
+
+module _ {A B : Type 0} (a : Rule A) (b : Rule B) where
+  abbrev pair : A → B × List Lexeme → Answer (A × B)
+  pair x q = Ok ((x, q.0), q.1)
+
+  abbrev second : A × List Lexeme → Answer (A × B)
+  second p = b.read p.1 >>= (λ (q : B × List Lexeme). Ok ((p.0, q.0), q.1))
+
+  seq_second : (ts us : List Lexeme) (p : A × List Lexeme) (o : Answer B) → ts ≡ us ++ p.1 → a.text us p.0
+      → ((vs : List Lexeme) → head p.1 ≡ head vs → a.read (us ++ vs) ≡ Ok (p.0, vs)) → Splits b p.1 o
+      → Splits (seq a b) ts (o >>= (λ (q : B × List Lexeme). Ok ((p.0, q.0), q.1)))
+  seq_second ts us p (Ok q) e t on w = (us ++ w.0, e ∙ ap (λ ws. us ++ ws) w.1 ∙ sym (append_assoc us w.0 q.1), (us, w.0, refl, t, w.2), λ vs h. again vs h)
+    where
+      again : (vs : List Lexeme) → head q.1 ≡ head vs → (seq a b).read ((us ++ w.0) ++ vs) ≡ Ok ((p.0, q.0), vs)
+      again vs h =
+          ap (λ ws. a.read ws >>= (λ (p : A × List Lexeme). second p)) (append_assoc us w.0 vs)
+          ∙ ap (λ o. o >>= (λ (p : A × List Lexeme). second p)) (on (w.0 ++ vs) (ap head w.1 ∙ head-append w.0 q.1 vs h))
+          ∙ ap (λ o. o >>= (λ (q : B × List Lexeme). pair p.0 q)) (w.3 vs h)
+  seq_second ts us p (Err n) e t on w =
+      (us ++ w.0, w.1, w.2, (p.0, w.3), e ∙ ap (λ ws. us ++ ws) w.4 ∙ sym (append_assoc us w.0 w.1), w.5,
+        (us, w.0 ++ w.2, append_assoc us w.0 w.2, t, w.6), λ vs h. again vs h)
+    where
+      again : (vs : List Lexeme) → head w.1 ≡ head vs → (seq a b).read ((us ++ w.0) ++ vs) ≡ Err (length vs)
+      again vs h =
+          ap (λ ws. a.read ws >>= (λ (p : A × List Lexeme). second p)) (append_assoc us w.0 vs)
+          ∙ ap (λ o. o >>= (λ (p : A × List Lexeme). second p)) (on (w.0 ++ vs) (ap head w.4 ∙ head-append w.0 w.1 vs h))
+          ∙ ap (λ o. o >>= (λ (q : B × List Lexeme). pair p.0 q)) (w.7 vs h)
+
+  seq_splits : (us0 : List Lexeme) (x0 : B) → b.text us0 x0 → ((ts : List Lexeme) → Splits b ts (b.read ts)) → (ts : List Lexeme) (o : Answer A)
+      → Splits a ts o → Splits (seq a b) ts (o >>= (λ (p : A × List Lexeme). second p))
+  seq_splits us0 x0 t0 sb ts (Ok p) w = seq_second ts w.0 p (b.read p.1) w.1 w.2 w.3 (sb p.1)
+  seq_splits us0 x0 t0 sb ts (Err n) w =
+      (w.0, w.1, w.2 ++ us0, (w.3, x0), w.4, w.5, (w.0 ++ w.2, us0, sym (append_assoc w.0 w.2 us0), w.6, t0), λ vs h. ap (λ o. o >>= (λ (p : A × List Lexeme). second p)) (w.7 vs h))
+
+  module _ (la : Lawful a) (lb : Lawful b) (on : apart a.goes b.starts ≡ true) where
+    -- what follows goes on with no text of the first
+    stops : (ws vs : List Lexeme) (y : B) → b.text ws y → begins (seq a b).goes vs ≡ false → begins a.goes (ws ++ vs) ≡ false
+    stops [] vs y t g =
+        not_right b.goes a.goes (first vs) (subst (λ e. begins (b.goes ++ when e a.goes) vs ≡ false) (lb.may_be_empty y t) g)
+    stops (w ∷ ws) vs y t g = apart_back a.goes b.starts (class_of w) on (lb.first w ws y t)
+
+    seq_first : (us ws : List Lexeme) (t : Lexeme) (ts : List Lexeme) (x : A) (y : B) → t ∷ ts ≡ us ++ ws → a.text us x → b.text ws y
+        → has (seq a b).starts (class_of t) ≡ true
+    seq_first [] ws t ts x y e m n =
+        subst (λ e. has (a.starts ++ when e b.starts) (class_of t) ≡ true) (sym (la.may_be_empty x m))
+          (has_right a.starts b.starts (class_of t) (lb.first t ts y (subst (λ l. b.text l y) (sym e) n)))
+    seq_first (u ∷ us) ws t ts x y e m n = has_left a.starts (when a.empty b.starts) (class_of t) (subst (λ v. has a.starts (class_of v) ≡ true) same (la.first u us x m))
+      where
+        same : u ≡ t
+        same = cc
+
+    seq_empty : (us ws : List Lexeme) (x : A) (y : B) → [] ≡ us ++ ws → a.text us x → b.text ws y → (a.empty && b.empty) ≡ true
+    seq_empty [] ws x y e m n = ap (λ c. c && b.empty) (la.may_be_empty x m) ∙ lb.may_be_empty y (subst (λ l. b.text l y) (sym e) n)
+    seq_empty (u ∷ us) ws x y e m n = absurd (cc)
+
+    pub seq_lawful : Lawful (seq a b)
+    seq_lawful = record {
+      splits = λ ts. seq_splits lb.some.0 lb.some.1 lb.some.2 lb.splits ts (a.read ts) (la.splits ts);
+      complete = λ us vs z w g.
+        ap (λ ws. a.read (ws ++ vs) >>= (λ (p : A × List Lexeme). second p)) w.2
+        ∙ ap (λ ws. a.read ws >>= (λ (p : A × List Lexeme). second p)) (append_assoc w.0 w.1 vs)
+        ∙ ap (λ o. o >>= (λ (p : A × List Lexeme). second p)) (la.complete w.0 (w.1 ++ vs) z.0 w.3 (stops w.1 vs z.1 w.4 g))
+        ∙ ap (λ o. o >>= (λ (q : B × List Lexeme). pair z.0 q)) (lb.complete w.1 vs z.1 w.4 (not_left b.goes (when b.empty a.goes) (first vs) g));
+      some = (la.some.0 ++ lb.some.0, (la.some.1, lb.some.1), (la.some.0, lb.some.0, refl, la.some.2, lb.some.2));
+      first = λ t ts z w. seq_first w.0 w.1 t ts z.0 z.1 w.2 w.3 w.4;
+      may_be_empty = λ z w. seq_empty w.0 w.1 z.0 z.1 w.2 w.3 w.4;
+    }
+
+-- one or the other
+
+module _ {A : Type 0} (a b : Rule A) where
+  by_first : (ws : List Lexeme) (t : Bool) → begins a.starts ws ≡ t → (either a b).read ws ≡ (if t then a.read ws else b.read ws)
+  by_first ws t e = ap (λ t. if t then a.read ws else b.read ws) e
+
+  either_left : (ts : List Lexeme) (o : Answer A) → begins a.starts ts ≡ true → Splits a ts o → Splits (either a b) ts o
+  either_left ts (Ok p) e w = (w.0, w.1, inl w.2, λ vs h. by_first (w.0 ++ vs) true (same_begins a.starts (w.0 ++ vs) ts (sym (ap head w.1 ∙ head-append w.0 p.1 vs h)) ∙ e) ∙ w.3 vs h)
+  either_left ts (Err n) e w =
+      (w.0, w.1, w.2, w.3, w.4, w.5, inl w.6, λ vs h. by_first (w.0 ++ vs) true (same_begins a.starts (w.0 ++ vs) ts (sym (ap head w.4 ∙ head-append w.0 w.1 vs h)) ∙ e) ∙ w.7 vs h)
+
+  either_right : (ts : List Lexeme) (o : Answer A) → begins a.starts ts ≡ false → Splits b ts o → Splits (either a b) ts o
+  either_right ts (Ok p) e w = (w.0, w.1, inr w.2, λ vs h. by_first (w.0 ++ vs) false (same_begins a.starts (w.0 ++ vs) ts (sym (ap head w.1 ∙ head-append w.0 p.1 vs h)) ∙ e) ∙ w.3 vs h)
+  either_right ts (Err n) e w =
+      (w.0, w.1, w.2, w.3, w.4, w.5, inr w.6, λ vs h. by_first (w.0 ++ vs) false (same_begins a.starts (w.0 ++ vs) ts (sym (ap head w.4 ∙ head-append w.0 w.1 vs h)) ∙ e) ∙ w.7 vs h)
+
+  module _ (la : Lawful a) (lb : Lawful b) (some : a.empty ≡ false) (apart_ones : apart b.starts a.starts ≡ true) where
+    either_splits : (ts : List Lexeme) (t : Bool) → begins a.starts ts ≡ t → Splits (either a b) ts (if t then a.read ts else b.read ts)
+    either_splits ts true e = either_left ts (a.read ts) e (la.splits ts)
+    either_splits ts false e = either_right ts (b.read ts) e (lb.splits ts)
+
+    full : (x : A) → a.text [] x → ⊥
+    full x t = clash a.empty (la.may_be_empty x t) some
+      where
+        clash : (e : Bool) → e ≡ true → e ≡ false → ⊥
+        clash e p q = cc
+
+    left_complete : (us vs : List Lexeme) (x : A) → a.text us x → begins (either a b).goes vs ≡ false → (either a b).read (us ++ vs) ≡ Ok (x, vs)
+    left_complete [] vs x t g = absurd (full x t)
+    left_complete (u ∷ us) vs x t g =
+        by_first (u ∷ (us ++ vs)) true (la.first u us x t)
+        ∙ la.complete (u ∷ us) vs x t (not_left a.goes (b.goes ++ when b.empty a.starts) (first vs) g)
+
+    right_goes : (vs : List Lexeme) → begins (either a b).goes vs ≡ false → begins b.goes vs ≡ false
+    right_goes vs g = not_left b.goes (when b.empty a.starts) (first vs) (not_right a.goes (b.goes ++ when b.empty a.starts) (first vs) g)
+
+    right_complete : (us vs : List Lexeme) (x : A) → b.text us x → begins (either a b).goes vs ≡ false → (either a b).read (us ++ vs) ≡ Ok (x, vs)
+    right_complete [] vs x t g =
+        by_first vs false (not_right b.goes a.starts (first vs)
+          (subst (λ e. begins (b.goes ++ when e a.starts) vs ≡ false) (lb.may_be_empty x t) (not_right a.goes (b.goes ++ when b.empty a.starts) (first vs) g)))
+        ∙ lb.complete [] vs x t (right_goes vs g)
+    right_complete (u ∷ us) vs x t g =
+        by_first (u ∷ (us ++ vs)) false (apart_is b.starts a.starts (class_of u) apart_ones (lb.first u us x t))
+        ∙ lb.complete (u ∷ us) vs x t (right_goes vs g)
+
+    either_complete : (us vs : List Lexeme) (x : A) → a.text us x ⊎ b.text us x → begins (either a b).goes vs ≡ false → (either a b).read (us ++ vs) ≡ Ok (x, vs)
+    either_complete us vs x (inl t) g = left_complete us vs x t g
+    either_complete us vs x (inr t) g = right_complete us vs x t g
+
+    either_first : (t : Lexeme) (ts : List Lexeme) (x : A) → a.text (t ∷ ts) x ⊎ b.text (t ∷ ts) x → has (a.starts ++ b.starts) (class_of t) ≡ true
+    either_first t ts x (inl w) = has_left a.starts b.starts (class_of t) (la.first t ts x w)
+    either_first t ts x (inr w) = has_right a.starts b.starts (class_of t) (lb.first t ts x w)
+
+    either_empty : (x : A) → a.text [] x ⊎ b.text [] x → b.empty ≡ true
+    either_empty x (inl w) = absurd (full x w)
+    either_empty x (inr w) = lb.may_be_empty x w
+
+    pub either_lawful : Lawful (either a b)
+    either_lawful = record {
+      splits = λ ts. either_splits ts (begins a.starts ts) refl;
+      complete = either_complete;
+      some = (la.some.0, la.some.1, inl la.some.2);
+      first = either_first;
+      may_be_empty = either_empty;
+    }

@@ -1,0 +1,33 @@
+-- What it is to read a whole text by a rule.
+use Rattle.std.specs.Prelude.{◌≡◌, ℕ, suc, ◌-◌, ◌<◌, ◌≤◌, List, [], ◌∷◌, ◌++◌, length, take, Ok, Err}
+use Rattle.std.specs.declared.result.Result.{Result}
+use Rattle.ir_rules.specs.Rules.{Answer, Rule, ◌>>=◌}
+use Rattle.ir_words.specs.Lexemes.{Lexeme}
+
+-- a text of the rule begins so
+abbrev pub Begins : {A : Type 0} → Rule A → List Lexeme → Type 0
+Begins {A} r ts = (more : List Lexeme) × (x : A) × r.text (ts ++ more) x
+
+-- The first bad token: a text begins with the tokens before it, and none with it too. At the end of
+-- the tokens: they begin a text and are none.
+pub record IsFirstBad {A : Type 0} (r : Rule A) (ts : List Lexeme) (at : ℕ) : Type 0 where
+  pub within : at ≤ length ts
+  pub before : Begins r (take at ts)
+  pub bad : at < length ts → Begins r (take (suc at) ts) → ⊥
+  pub end : at ≡ length ts → (x : A) → r.text ts x → ⊥
+
+-- the tree of the whole text, or how many tokens are left from its first bad one on
+abbrev pub Reads : {A : Type 0} → Rule A → List Lexeme → Result A ℕ → Type 0
+Reads r ts (Ok x) = r.text ts x
+Reads r ts (Err left) = (left ≤ length ts) × IsFirstBad r ts (length ts - left)
+
+-- no token is to be left
+abbrev pub ended : {A : Type 0} → A × List Lexeme → Result A ℕ
+ended p = ended_at p.0 p.1
+  where
+    ended_at : {A : Type 0} → A → List Lexeme → Result A ℕ
+    ended_at x [] = Ok x
+    ended_at x (t ∷ ts) = Err (suc (length ts))
+
+abbrev pub read_all : {A : Type 0} → Rule A → List Lexeme → Result A ℕ
+read_all r ts = r.read ts >>= ended

@@ -1,0 +1,2 @@
+//! The combinators of the grammar of textual LLVM IR.
+#![tactic(auto)]
