@@ -1,19 +1,18 @@
 -- The combinators made of others keep the laws.
-use Rattle.std.proofs.Common.{◌≡◌, Bool, true, false, ◌&&◌, List, [], ◌∷◌, ◌++◌, Some, None, refl}
+use Rattle.std.proofs.Common.{◌≡◌, true, false, List, [], ◌∷◌, Some, None, refl}
 use Rattle.ir_words.specs.Classes.{class_of}
 use Rattle.ir_words.specs.Lexemes.{Lexeme}
 use Rattle.ir_words.specs.declared.class.Class.{Class}
-use Rattle.ir_words.specs.declared.class.Class.TheVariants as Classes
-use Rattle.ir_rules.specs.Rules.{Rule, ◌▷◌, ◌◁◌, apart, commas, commas_some, dropped, each, either, has, is_word, made, nothing, option, seq, word}
+use Rattle.ir_rules.specs.Rules.{Rule, ◌▷◌, ◌◁◌, apart, dropped, each, has, is_word, made, nothing, option, seq, word}
 use Rattle.ir_rules.proofs.Chains.{each_lawful}
 use Rattle.ir_rules.proofs.Laws.{Lawful, either_lawful, made_lawful, nothing_lawful, seq_lawful, word_lawful}
 
 -- t is a token of the class
-pub before_lawful : {A : Type 0} (class : Class) (t : Lexeme) → is_word class t ≡ Some tt → has (class ∷ []) class ≡ true → (a : Rule A) → Lawful a → Lawful (class ▷ a)
+pub before_lawful : {A : Type 0} (class : Class) (t : Lexeme) → is_word class (class_of t) t.text ≡ Some tt → has (class ∷ []) class ≡ true → (a : Rule A) → Lawful a → Lawful (class ▷ a)
 before_lawful {A} class t k e a la =
     made_lawful (λ (z : Unit {0} × A). z.1) (seq (word class) a) (seq_lawful (word class) a (word_lawful class t k e) la refl)
 
-pub after_lawful : {A : Type 0} (a : Rule A) → Lawful a → (class : Class) (t : Lexeme) → is_word class t ≡ Some tt → has (class ∷ []) class ≡ true
+pub after_lawful : {A : Type 0} (a : Rule A) → Lawful a → (class : Class) (t : Lexeme) → is_word class (class_of t) t.text ≡ Some tt → has (class ∷ []) class ≡ true
     → apart a.goes (class ∷ []) ≡ true → Lawful (a ◁ class)
 after_lawful {A} a la class t k e on =
     made_lawful (λ (z : A × Unit {0}). z.0) (seq a (word class)) (seq_lawful a (word class) la (word_lawful class t k e) on)

@@ -1,12 +1,10 @@
 -- The laws of a rule, and that each combinator keeps them.
-use Rattle.std.proofs.Common.{◌≡◌, ℕ, zero, suc, ◌+◌, ◌-◌, ◌<◌, ◌≤◌, Bool, true, false, ◌&&◌, ◌||◌, ◌==◌, not, List, [], ◌∷◌, ◌++◌, Ok, Err, Some, None, arith, ap, append_assoc, inl, inr, length, refl, subst, sym, ◌∙◌, if◌then◌else◌}
+use Rattle.std.proofs.Common.{◌≡◌, ℕ, suc, Bool, true, false, ◌&&◌, ◌==◌, List, [], ◌∷◌, ◌++◌, Ok, Err, Some, None, ap, append_assoc, inl, inr, length, refl, subst, sym, ◌∙◌, if◌then◌else◌}
 use Rattle.std.specs.Prelude.{◌⊎◌, Option}
-use Rattle.std.proofs.lemmas.List.{append-nil, length-append}
 use Rattle.ir_words.specs.Classes.{class_of, first, number}
 use Rattle.ir_words.specs.Lexemes.{Lexeme}
 use Rattle.ir_words.specs.declared.class.Class.{Class}
-use Rattle.ir_words.specs.declared.class.Class.TheVariants as Classes
-use Rattle.ir_rules.specs.Rules.{Answer, Rule, ◌>>=◌, all_in, apart, begins, chain, chain_read, chain_text, each, either, has, is_word, made, nothing, one_of, one_read, seq, token, when, with_item, within, word}
+use Rattle.ir_rules.specs.Rules.{Answer, Rule, ◌>>=◌, all_in, apart, begins, either, has, is_word, made, nothing, one_of, one_read, seq, token, when, within, word}
 use Rattle.ir_rules.proofs.Sets.{apart_back, apart_is, has_left, has_right, has_same, head, head-append, not_left, not_right, not_within, same_begins, same_number, within_is}
 
 -- What an answer says of the tokens, for a rule and for it alone: a text and the rest, or a front of
@@ -30,25 +28,29 @@ pub record Lawful {A : Type 0} (r : Rule A) : Type 0 where
 
 -- one token
 
-module _ {A : Type 0} (cs : List Class) (f : Lexeme → Option A) where
-  token_splits_at : (t : Lexeme) (ts : List Lexeme) (o : Option A) → f t ≡ o → (t0 : Lexeme) (x0 : A) → f t0 ≡ Some x0
+module _ {A : Type 0} (cs : List Class) (f : Class → List ℕ → Option A) where
+  abbrev tree : Lexeme → Option A
+  tree t = f (class_of t) t.text
+
+  splits_one : (t : Lexeme) (ts : List Lexeme) (o : Option A) → tree t ≡ o → (t0 : Lexeme) (x0 : A) → tree t0 ≡ Some x0
       → Splits (token cs f) (t ∷ ts) (one_read o ts (suc (length ts)))
-  token_splits_at t ts (Some x) e t0 x0 k = (t ∷ [], refl, (t, refl, e), λ vs h. ap (λ o. one_read o vs (suc (length vs))) e)
-  token_splits_at t ts None e t0 x0 k = ([], t ∷ ts, t0 ∷ [], x0, refl, refl, (t0, refl, k), λ vs h. again vs h)
+  splits_one t ts (Some x) e t0 x0 k = (t ∷ [], refl, (t, refl, e), λ vs h. ap (λ o. one_read o vs (suc (length vs))) e)
+  splits_one t ts None e t0 x0 k = ([], t ∷ ts, t0 ∷ [], x0, refl, refl, (t0, refl, k), λ vs h. again vs h)
     where
       again : (vs : List Lexeme) → head (t ∷ ts) ≡ head vs → one_of f vs ≡ Err (length vs)
       again [] h = absurd (cc)
-      again (v ∷ vs) h = ap (λ o. one_read o vs (suc (length vs))) (ap f same ∙ e)
+      again (v ∷ vs) h = ap (λ o. one_read o vs (suc (length vs))) (ap tree same ∙ e)
         where
           same : v ≡ t
           same = cc
 
-  pub token_lawful : ((t : Lexeme) (x : A) → f t ≡ Some x → has cs (class_of t) ≡ true) → (t0 : Lexeme) (x0 : A) → f t0 ≡ Some x0 → Lawful (token cs f)
+  pub token_lawful : ((c : Class) (text : List ℕ) (x : A) → f c text ≡ Some x → has cs c ≡ true) → (t0 : Lexeme) (x0 : A) → f (class_of t0) t0.text ≡ Some x0
+      → Lawful (token cs f)
   token_lawful known t0 x0 k = record {
     splits = splits;
     complete = complete;
     some = (t0 ∷ [], x0, (t0, refl, k));
-    first = λ t ts x w. known t x (ap f (same t w.0 ts w.1) ∙ w.2);
+    first = λ t ts x w. known (class_of t) t.text x (ap tree (same t w.0 ts w.1) ∙ w.2);
     may_be_empty = λ x w. absurd (nothing_there w.0 w.1);
   }
     where
@@ -58,25 +60,31 @@ module _ {A : Type 0} (cs : List Class) (f : Lexeme → Option A) where
       nothing_there : (t : Lexeme) → [] ≡ t ∷ [] → ⊥
       nothing_there t e = cc
 
+      at_end : (o : Option A) → f Class.End [] ≡ o → one_read o [] 0 ≡ Err 0
+      at_end (Some x) e = absurd (clash (known Class.End [] x e))
+        where
+          clash : false ≡ true → ⊥
+          clash e = cc
+      at_end None e = refl
+
       splits : (ts : List Lexeme) → Splits (token cs f) ts (one_of f ts)
-      splits [] = ([], [], t0 ∷ [], x0, refl, refl, (t0, refl, k), λ vs h. again vs h)
+      splits [] = subst (Splits (token cs f) []) (sym (at_end (f Class.End []) refl)) ([], [], t0 ∷ [], x0, refl, refl, (t0, refl, k), λ vs h. again vs h)
         where
           again : (vs : List Lexeme) → head [] ≡ head vs → one_of f vs ≡ Err (length vs)
-          again [] h = refl
+          again [] h = at_end (f Class.End []) refl
           again (v ∷ vs) h = absurd (cc)
-      splits (t ∷ ts) = token_splits_at t ts (f t) refl t0 x0 k
+      splits (t ∷ ts) = splits_one t ts (tree t) refl t0 x0 k
 
       complete : (us vs : List Lexeme) (x : A) → (token cs f).text us x → begins [] vs ≡ false → one_of f (us ++ vs) ≡ Ok (x, vs)
       complete us vs x w g = ap (λ us. one_of f (us ++ vs)) w.1 ∙ ap (λ o. one_read o vs (suc (length vs))) w.2
 
 -- a word: t is one
-pub word_lawful : (class : Class) (t : Lexeme) → is_word class t ≡ Some tt → has (class ∷ []) class ≡ true → Lawful (word class)
-word_lawful class t k e = token_lawful (class ∷ []) (is_word class) (λ u x h. known u x (number class == number (class_of u)) refl h) t tt k
+pub word_lawful : (class : Class) (t : Lexeme) → is_word class (class_of t) t.text ≡ Some tt → has (class ∷ []) class ≡ true → Lawful (word class)
+word_lawful class t k e = token_lawful (class ∷ []) (is_word class) (λ c text x h. known c x (number class == number c) refl h) t tt k
   where
-    known : (u : Lexeme) (x : Unit {0}) (b : Bool) → (number class == number (class_of u)) ≡ b → (if b then Some tt else None) ≡ Some x
-        → has (class ∷ []) (class_of u) ≡ true
-    known u x true is h = sym (has_same (class ∷ []) class (class_of u) (same_number class (class_of u) is)) ∙ e
-    known u x false is h = absurd (cc)
+    known : (c : Class) (x : Unit {0}) (b : Bool) → (number class == number c) ≡ b → (if b then Some tt else None) ≡ Some x → has (class ∷ []) c ≡ true
+    known c x true is h = sym (has_same (class ∷ []) class c (same_number class c is)) ∙ e
+    known c x false is h = absurd (cc)
 
 -- no token
 

@@ -1,12 +1,11 @@
 -- Sets of classes, and lists of lexemes that begin alike.
-use Rattle.std.proofs.Common.{◌≡◌, ℕ, Bool, true, false, ◌&&◌, ◌||◌, ◌==◌, not, List, [], ◌∷◌, ◌++◌, arith, ap, refl, sym, ◌∙◌, length}
+use Rattle.std.proofs.Common.{◌≡◌, ℕ, Bool, true, false, ◌&&◌, ◌||◌, ◌==◌, not, List, [], ◌∷◌, ◌++◌, arith, ap, refl, sym, ◌∙◌}
 use Rattle.std.specs.Prelude.{Option, Some, None}
 use Rattle.std.proofs.lemmas.Bool.Decides.{nat_tests}
 use Rattle.ir_words.specs.Classes.{class_of, first, number}
 use Rattle.ir_words.specs.Lexemes.{Lexeme}
 use Rattle.ir_words.specs.declared.class.Class.{Class}
-use Rattle.ir_words.specs.declared.class.Class.TheVariants as Classes
-use Rattle.ir_rules.specs.Rules.{all_in, apart, begins, has, is_one, when}
+use Rattle.ir_rules.specs.Rules.{all_in, apart, begins, has, is_one}
 
 and_left : (a b : Bool) → (a && b) ≡ true → a ≡ true
 and_left true b h = refl

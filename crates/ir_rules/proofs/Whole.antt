@@ -1,11 +1,9 @@
 -- A whole text is read exactly, or to its first bad token.
-use Rattle.std.proofs.Common.{◌≡◌, ℕ, zero, suc, ◌+◌, ◌-◌, ◌<◌, ◌≤◌, Bool, true, false, List, [], ◌∷◌, ◌++◌, Ok, Err, arith, ap, append_assoc, length, refl, Some, subst, sym, take, ◌∙◌}
-use Rattle.std.specs.declared.result.Result.{Result}
+use Rattle.std.proofs.Common.{◌≡◌, ℕ, suc, ◌-◌, ◌<◌, Bool, true, false, List, [], ◌∷◌, ◌++◌, Ok, Err, arith, ap, append_assoc, length, refl, Some, subst, sym, take, ◌∙◌}
 use Rattle.std.proofs.lemmas.List.{append-nil, length-append, take_at}
 use Rattle.ir_words.specs.Lexemes.{Lexeme}
-use Rattle.ir_words.specs.declared.class.Class.TheVariants as Classes
 use Rattle.ir_rules.specs.Reading.{Begins, IsFirstBad, Reads, ended, read_all}
-use Rattle.ir_rules.specs.Rules.{Answer, Rule, ◌>>=◌, begins}
+use Rattle.ir_rules.specs.Rules.{Answer, Rule, ◌>>=◌}
 use Rattle.ir_rules.proofs.Laws.{Lawful, Splits}
 use Rattle.ir_rules.proofs.Sets.{head}
 

@@ -1,7 +1,9 @@
 -- What it is to read a whole text by a rule.
 use Rattle.std.specs.Prelude.{◌≡◌, ℕ, suc, ◌-◌, ◌<◌, ◌≤◌, List, [], ◌∷◌, ◌++◌, length, take, Ok, Err}
 use Rattle.std.specs.declared.result.Result.{Result}
-use Rattle.ir_rules.specs.Rules.{Answer, Rule, ◌>>=◌}
+use Rattle.ir_rules.specs.declared.end.End.{End}
+use Rattle.ir_rules.specs.declared.end.End.TheVariants.{NoMemory, Bad}
+use Rattle.ir_rules.specs.Rules.{Rule, ◌>>=◌}
 use Rattle.ir_words.specs.Lexemes.{Lexeme}
 
 -- a text of the rule begins so
@@ -31,3 +33,9 @@ ended p = ended_at p.0 p.1
 
 abbrev pub read_all : {A : Type 0} → Rule A → List Lexeme → Result A ℕ
 read_all r ts = r.read ts >>= ended
+
+-- what is answered is what is read, unless memory ran out
+abbrev pub Gives : {T A : Type 0} → (T → A) → Result T End → Result A ℕ → Type 0
+Gives view (Ok x) read = read ≡ Ok (view x)
+Gives view (Err NoMemory) read = Unit {0}
+Gives view (Err (Bad left)) read = read ≡ Err left

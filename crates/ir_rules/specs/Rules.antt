@@ -1,11 +1,10 @@
 -- The combinators of a grammar. A rule holds which tokens are its texts, each with its tree, and an
 -- online reader: one that decides by the next token alone.
-use Rattle.std.specs.Prelude.{◌≡◌, ℕ, zero, suc, ◌⊎◌, Bool, true, false, ◌&&◌, ◌||◌, ◌==◌, not, List, [], ◌∷◌, ◌++◌, length, Some, None, Option, Ok, Err, if◌then◌else◌}
+use Rattle.std.specs.Prelude.{◌≡◌, ℕ, zero, suc, ◌⊎◌, Bool, true, false, ◌&&◌, ◌||◌, ◌==◌, not, List, [], ◌∷◌, ◌++◌, drop, length, Some, None, Option, Ok, Err, if◌then◌else◌}
 use Rattle.std.specs.declared.result.Result.{Result}
-use Rattle.ir_words.specs.Classes.{class_of, first, number, same}
+use Rattle.ir_words.specs.Classes.{class_of, first, head_text, number, same}
 use Rattle.ir_words.specs.Lexemes.{Lexeme}
 use Rattle.ir_words.specs.declared.class.Class.{Class}
-use Rattle.ir_words.specs.declared.class.Class.TheVariants as Classes
 
 -- a tree and the tokens after its text, or how many tokens are left from the first bad one on: 0
 -- where the tokens end too soon
@@ -57,22 +56,21 @@ abbrev pub one_read : {A : Type 0} → Option A → List Lexeme → ℕ → Answ
 one_read (Some x) ts left = Ok (x, ts)
 one_read None ts left = Err left
 
-abbrev pub one_of : {A : Type 0} → (Lexeme → Option A) → List Lexeme → Answer A
-one_of f [] = Err 0
-one_of f (t ∷ ts) = one_read (f t) ts (suc (length ts))
+abbrev pub one_of : {A : Type 0} → (Class → List ℕ → Option A) → List Lexeme → Answer A
+one_of f ts = one_read (f (first ts) (head_text ts)) (drop 1 ts) (length ts)
 
--- one token, of one of these classes
-abbrev pub token : {A : Type 0} → List Class → (Lexeme → Option A) → Rule A
+-- one token, of one of these classes: its tree is by its class and its bytes
+abbrev pub token : {A : Type 0} → List Class → (Class → List ℕ → Option A) → Rule A
 token {A} cs f = record {
-  text = λ ts x. (t : Lexeme) × (ts ≡ t ∷ []) × (f t ≡ Some x);
+  text = λ ts x. (t : Lexeme) × (ts ≡ t ∷ []) × (f (class_of t) t.text ≡ Some x);
   read = one_of f;
   starts = cs;
   goes = [];
   empty = false;
 }
 
-abbrev pub is_word : Class → Lexeme → Option (Unit {0})
-is_word class t = if same class (class_of t) then Some tt else None
+abbrev pub is_word : Class → Class → List ℕ → Option (Unit {0})
+is_word class c text = if same class c then Some tt else None
 
 -- one token of a class
 abbrev pub word : Class → Rule (Unit {0})

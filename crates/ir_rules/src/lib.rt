@@ -1,2 +1,9 @@
-//! The combinators of the grammar of textual LLVM IR.
+//! The combinators of the grammar of textual LLVM IR, each a relation and an online reader, and
+//! what every reader of a part of it uses.
 #![tactic(auto)]
+
+mod end;
+mod token;
+
+pub use end::End;
+pub use token::{bad, word};

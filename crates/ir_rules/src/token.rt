@@ -1,0 +1,31 @@
+//! Tokens one at a time.
+ghost use Rattle.std.specs.Prelude.{◌≡◌, length};
+ghost use Rattle.ir_rules.specs.Reading.{Gives};
+ghost use Rattle.ir_rules.specs.Rules.{word};
+ghost use Rattle.ir_rules.specs.declared.end.End.TheVariants.{Bad};
+
+use ir_words::{Class, Rest, is_same};
+
+use crate::end::End;
+
+/// The first token is bad.
+pub fn bad(rest: &Rest<'_>) -> End
+    ensures { result ≡ Bad (length rest.now) }
+{
+    End::Bad(rest.len())
+}
+
+/// Reads a token of a class.
+///
+/// # Errors
+///
+/// `Bad` at this token if it is of another class.
+pub fn word<'t>(rest: Rest<'t>, class: Class) -> Result<Rest<'t>, End>
+    ensures { Gives (λ rest. (tt, rest)) result ((word class).read rest.entry) }
+{
+    if is_same(class, rest.first()) {
+        Ok(rest.skip())
+    } else {
+        Err(bad(&rest))
+    }
+}
