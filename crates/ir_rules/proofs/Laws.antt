@@ -1,6 +1,7 @@
 -- The laws of a rule, and that each combinator keeps them.
 use Rattle.std.proofs.Common.{◌≡◌, ℕ, suc, Bool, true, false, ◌&&◌, ◌==◌, List, [], ◌∷◌, ◌++◌, Ok, Err, Some, None, ap, append_assoc, inl, inr, length, refl, subst, sym, ◌∙◌, if◌then◌else◌}
 use Rattle.std.specs.Prelude.{◌⊎◌, Option}
+use Rattle.ir_lex.specs.declared.kind.Kind.{Kind}
 use Rattle.ir_words.specs.Classes.{class_of, first, number}
 use Rattle.ir_words.specs.Lexemes.{Lexeme}
 use Rattle.ir_words.specs.declared.class.Class.{Class}
@@ -25,6 +26,10 @@ pub record Lawful {A : Type 0} (r : Rule A) : Type 0 where
   pub some : (us : List Lexeme) × (x : A) × r.text us x
   pub first : (t : Lexeme) (ts : List Lexeme) (x : A) → r.text (t ∷ ts) x → has r.starts (class_of t) ≡ true
   pub may_be_empty : (x : A) → r.text [] x → r.empty ≡ true
+
+-- a token, as an example of its kind
+abbrev pub sample : Kind → List ℕ → Lexeme
+sample kind text = record { kind = kind; text = text; line = 1 }
 
 -- one token
 

@@ -1,3 +1,4 @@
+pub mod Balances
 pub mod Chains
 pub mod Derived
 pub mod Laws

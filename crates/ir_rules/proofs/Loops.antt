@@ -1,10 +1,40 @@
 -- The steps of a loop that reads items into a list.
-use Rattle.std.proofs.Common.{◌≡◌, ℕ, true, false, List, [], ◌∷◌, ◌++◌, Ok, Err, ap, append_assoc, map, refl, sym, ◌∙◌}
+use Rattle.std.proofs.Common.{◌≡◌, not, ◌&&◌, ◌||◌, ℕ, Bool, true, false, List, [], ◌∷◌, ◌++◌, Ok, Err, Some, None, ◌==◌, arith, drop, length, if◌then◌else◌, ap, append_assoc, map, refl, sym, ◌∙◌}
+use Rattle.std.proofs.lemmas.Bool.Decides.{nat_tests}
+use Rattle.ir_words.specs.Classes.{first, number, same}
 use Rattle.std.proofs.lemmas.List.{append-nil, map-append}
+use Rattle.ir_words.specs.declared.class.Class.{Class}
+use Rattle.ir_words.specs.declared.class.Class.TheVariants as Classes
 use Rattle.ir_words.specs.Lexemes.{Lexeme}
-use Rattle.ir_rules.specs.Rules.{Answer, Rule, ◌>>=◌, apart, begins, each, with_item}
+use Rattle.ir_rules.specs.Rules.{Answer, Rule, ◌>>=◌, apart, begins, each, one_read, ◌▷◌, with_item}
 use Rattle.ir_rules.proofs.Chains.{chain_ends, chain_goes, item_and, read_starts}
 use Rattle.ir_rules.proofs.Laws.{Lawful}
+
+abbrev with_word : {A : Type 0} → A × List Lexeme → Answer (Unit {0} × A)
+with_word q = Ok ((tt, q.0), q.1)
+
+abbrev keep : {A : Type 0} → (Unit {0} × A) × List Lexeme → Answer A
+keep p = Ok (p.0.1, p.1)
+
+kept : {A : Type 0} (o : Answer A) → ((o >>= (λ (q : A × List Lexeme). with_word q)) >>= (λ (p : (Unit {0} × A) × List Lexeme). keep p)) ≡ o
+kept (Ok q) = refl
+kept (Err n) = refl
+
+itself : (n : ℕ) → (n == n) ≡ true
+itself n = grind (arith, nat_tests)
+
+abbrev word_and : {A : Type 0} → Rule A → List Lexeme → Bool → Answer A
+word_and {A} a ts b =
+    (one_read (if b then Some tt else None) (drop 1 ts) (length ts) >>= (λ (p : Unit {0} × List Lexeme). a.read p.1 >>= (λ (q : A × List Lexeme). with_word q)))
+    >>= (λ (p : (Unit {0} × A) × List Lexeme). keep p)
+
+-- an item after a word that stands there
+pub before_read : {A : Type 0} (class : Class) (a : Rule A) (ts : List Lexeme) (o : Answer A) → first ts ≡ class → a.read (drop 1 ts) ≡ o → (class ▷ a).read ts ≡ o
+before_read {A} class a ts o e r =
+    ap (λ c. word_and a ts (same class c)) e
+    ∙ ap (word_and a ts) (itself (number class))
+    ∙ ap (λ o. (o >>= (λ (q : A × List Lexeme). with_word q)) >>= (λ (p : (Unit {0} × A) × List Lexeme). keep p)) r
+    ∙ kept o
 
 -- an answer after these items
 abbrev pub with_front : {A : Type 0} → List A → Answer (List A) → Answer (List A)
@@ -43,3 +73,21 @@ module _ {A X : Type 0} (a : Rule A) (la : Lawful a) (some : a.empty ≡ false) 
     where
       begun : begins a.starts ts ≡ true
       begun = read_starts {S = Unit {0}} a.starts a.goes (λ s. a) (λ s x. s) (λ s. la) (λ s. some) (λ s c h. h) (λ s c h. h) on tt ts (view x, after) r
+
+not_first : (class : Class) (ts : List Lexeme) → false ≡ (number (first ts) == number class) → begins (class ∷ []) ts ≡ false
+not_first class ts e = go (number Class.End) (number (first ts)) (number class) e
+  where
+    go : (m n k : ℕ) → false ≡ (n == k) → (not (m == n) && (k == n || false)) ≡ false
+    go m n k e = grind (arith, nat_tests)
+
+-- items that each begin with one word
+module _ {A X : Type 0} (class : Class) (a : Rule A) (la : Lawful (class ▷ a)) (on : apart (class ▷ a).goes (class ∷ []) ≡ true) (view : X → A) where
+  pub led_ends : (front : List X) (ts : List Lexeme) (whole : Answer (List A)) → with_front (map view front) ((each (class ▷ a)).read ts) ≡ whole
+      → false ≡ (number (first ts) == number class) → whole ≡ Ok (map view front, ts)
+  led_ends front ts whole inv e = front_ends (class ▷ a) la refl on view front ts whole inv (not_first class ts e)
+
+  pub led_push : (front more : List X) (x : X) (ts after : List Lexeme) (whole : Answer (List A)) → more ≡ front ++ x ∷ [] → first ts ≡ class
+      → a.read (drop 1 ts) ≡ Ok (view x, after) → with_front (map view front) ((each (class ▷ a)).read ts) ≡ whole
+      → with_front (map view more) ((each (class ▷ a)).read after) ≡ whole
+  led_push front more x ts after whole is f r inv =
+      front_push (class ▷ a) la refl on view front more x ts after whole is (before_read class a ts (Ok (view x, after)) f r) inv

@@ -2,8 +2,10 @@
 //! what every reader of a part of it uses.
 #![tactic(auto)]
 
+mod bracket;
 mod end;
 mod token;
 
+pub use bracket::{Bracket, Role, opener, role_of};
 pub use end::End;
 pub use token::{bad, word};
