@@ -1,15 +1,12 @@
 -- The rule of balanced brackets is lawful.
-use Rattle.std.proofs.Common.{◌≡◌, ℕ, suc, ◌==◌, Bool, true, false, List, [], ◌∷◌, ◌++◌, Ok, Err, Some, None, arith, ap, append_assoc, if◌then◌else◌, length, refl, subst, sym, ◌∙◌}
-use Rattle.std.proofs.lemmas.Bool.Decides.{nat_tests}
+use Rattle.std.proofs.Common.{◌≡◌, suc, Bool, true, false, List, [], ◌∷◌, ◌++◌, Ok, Err, Some, None, ap, append_assoc, if◌then◌else◌, length, refl, subst, sym, ◌∙◌}
 use Rattle.ir_lex.specs.declared.kind.Kind.TheVariants as kind
-use Rattle.ir_words.specs.Classes.{class_of, first, number, same}
+use Rattle.ir_words.specs.Classes.{class_of, same}
 use Rattle.ir_words.specs.Lexemes.{Lexeme}
-use Rattle.ir_words.specs.declared.class.Class.{Class}
-use Rattle.ir_words.specs.declared.class.Class.TheVariants as Classes
 use Rattle.ir_words.proofs.Numbers.{same_is}
 use Rattle.ir_rules.specs.Balance.{AreBalanced, Parts, enclosed, is_closed_by, opener, role_of, skip_on, skip_to, tokens_of}
 use Rattle.ir_rules.specs.Balance.Parts.{none, plain, pair}
-use Rattle.ir_rules.specs.Rules.{Answer, ◌>>=◌, begins, has, one_read}
+use Rattle.ir_rules.specs.Rules.{Answer, ◌>>=◌, has, one_read}
 use Rattle.ir_rules.specs.declared.bracket.Bracket.{Bracket}
 use Rattle.ir_rules.specs.declared.bracket.Bracket.TheVariants.{Round, Square, Curly, Packed}
 use Rattle.ir_rules.specs.declared.bracket.Role.{Role}

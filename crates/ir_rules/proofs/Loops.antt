@@ -4,9 +4,8 @@ use Rattle.std.proofs.lemmas.Bool.Decides.{nat_tests}
 use Rattle.ir_words.specs.Classes.{first, number, same}
 use Rattle.std.proofs.lemmas.List.{append-nil, map-append}
 use Rattle.ir_words.specs.declared.class.Class.{Class}
-use Rattle.ir_words.specs.declared.class.Class.TheVariants as Classes
 use Rattle.ir_words.specs.Lexemes.{Lexeme}
-use Rattle.ir_rules.specs.Rules.{Answer, Rule, ◌>>=◌, apart, begins, each, one_read, ◌▷◌, with_item}
+use Rattle.ir_rules.specs.Rules.{Answer, Rule, ◌>>=◌, apart, begins, each, has, one_read, ◌▷◌, with_item}
 use Rattle.ir_rules.proofs.Chains.{chain_ends, chain_goes, item_and, read_starts}
 use Rattle.ir_rules.proofs.Laws.{Lawful}
 
@@ -44,35 +43,38 @@ front_and : {A : Type 0} (front : List A) (x : A) (o : Answer (List A)) → with
 front_and front x (Ok q) = ap (λ l. Ok (l, q.1)) (sym (append_assoc front (x ∷ []) q.0))
 front_and front x (Err n) = refl
 
-module _ {A X : Type 0} (a : Rule A) (la : Lawful a) (some : a.empty ≡ false) (on : apart a.goes a.starts ≡ true) (view : X → A) where
+module _ {A : Type 0} (a : Rule A) (la : Lawful a) (some : a.empty ≡ false) (on : apart a.goes a.starts ≡ true) where
+  abbrev then_more : A × List Lexeme → Answer (List A)
+  then_more p = item_and {S = Unit {0}} a.starts a.goes (λ s. a) (λ s x. s) tt p
+
   -- where no item begins, the list is read
-  pub front_ends : (front : List X) (ts : List Lexeme) (whole : Answer (List A)) → with_front (map view front) ((each a).read ts) ≡ whole → begins a.starts ts ≡ false
-      → whole ≡ Ok (map view front, ts)
+  pub front_ends : (front : List A) (ts : List Lexeme) (whole : Answer (List A)) → with_front front ((each a).read ts) ≡ whole → begins a.starts ts ≡ false
+      → whole ≡ Ok (front, ts)
   front_ends front ts whole inv e =
       sym inv
-      ∙ ap (with_front (map view front)) (chain_ends {S = Unit {0}} a.starts a.goes (λ s. a) (λ s x. s) (λ s. la) (λ s. some) tt ts e)
-      ∙ ap (λ l. Ok (l, ts)) (append-nil (map view front))
+      ∙ ap (with_front front) (chain_ends {S = Unit {0}} a.starts a.goes (λ s. a) (λ s x. s) (λ s. la) (λ s. some) tt ts e)
+      ∙ ap (λ l. Ok (l, ts)) (append-nil front)
 
-  goes : (ts : List Lexeme) → begins a.starts ts ≡ true → (each a).read ts ≡ (a.read ts >>= item_and {S = Unit {0}} a.starts a.goes (λ s. a) (λ s x. s) tt)
-  goes ts e = chain_goes {S = Unit {0}} a.starts a.goes (λ s. a) (λ s x. s) (λ s. la) (λ s. some) tt ts e
+  front_goes : (ts : List Lexeme) → begins a.starts ts ≡ true → (each a).read ts ≡ (a.read ts >>= (λ (p : A × List Lexeme). then_more p))
+  front_goes ts e = chain_goes {S = Unit {0}} a.starts a.goes (λ s. a) (λ s x. s) (λ s. la) (λ s. some) tt ts e
 
   -- an item's bad token is the list's
-  pub front_bad : (front : List X) (ts : List Lexeme) (whole : Answer (List A)) (n : ℕ) → with_front (map view front) ((each a).read ts) ≡ whole → begins a.starts ts ≡ true
+  pub front_bad : (front : List A) (ts : List Lexeme) (whole : Answer (List A)) (n : ℕ) → with_front front ((each a).read ts) ≡ whole → begins a.starts ts ≡ true
       → a.read ts ≡ Err n → whole ≡ Err n
   front_bad front ts whole n inv e r =
-      sym inv ∙ ap (with_front (map view front)) (goes ts e ∙ ap (λ o. o >>= item_and {S = Unit {0}} a.starts a.goes (λ s. a) (λ s x. s) tt) r)
+      sym inv ∙ ap (with_front front) (front_goes ts e ∙ ap (λ o. o >>= (λ (p : A × List Lexeme). then_more p)) r)
 
   -- one more item
-  pub front_push : (front more : List X) (x : X) (ts after : List Lexeme) (whole : Answer (List A)) → more ≡ front ++ x ∷ [] → a.read ts ≡ Ok (view x, after)
-      → with_front (map view front) ((each a).read ts) ≡ whole → with_front (map view more) ((each a).read after) ≡ whole
+  pub front_push : (front more : List A) (x : A) (ts after : List Lexeme) (whole : Answer (List A)) → more ≡ front ++ x ∷ [] → a.read ts ≡ Ok (x, after)
+      → with_front front ((each a).read ts) ≡ whole → with_front more ((each a).read after) ≡ whole
   front_push front more x ts after whole is r inv =
-      ap (λ l. with_front l ((each a).read after)) (ap (map view) is ∙ map-append view front (x ∷ []))
-      ∙ sym (front_and (map view front) (view x) ((each a).read after))
-      ∙ ap (with_front (map view front)) (sym (goes ts begun ∙ ap (λ o. o >>= item_and {S = Unit {0}} a.starts a.goes (λ s. a) (λ s x. s) tt) r))
+      ap (λ l. with_front l ((each a).read after)) is
+      ∙ sym (front_and front x ((each a).read after))
+      ∙ ap (with_front front) (sym (front_goes ts begun ∙ ap (λ o. o >>= (λ (p : A × List Lexeme). then_more p)) r))
       ∙ inv
     where
       begun : begins a.starts ts ≡ true
-      begun = read_starts {S = Unit {0}} a.starts a.goes (λ s. a) (λ s x. s) (λ s. la) (λ s. some) (λ s c h. h) (λ s c h. h) on tt ts (view x, after) r
+      begun = read_starts {S = Unit {0}} a.starts a.goes (λ s. a) (λ s x. s) (λ s. la) (λ s. some) (λ s c h. h) (λ s c h. h) on tt ts (x, after) r
 
 not_first : (class : Class) (ts : List Lexeme) → false ≡ (number (first ts) == number class) → begins (class ∷ []) ts ≡ false
 not_first class ts e = go (number Class.End) (number (first ts)) (number class) e
@@ -80,14 +82,22 @@ not_first class ts e = go (number Class.End) (number (first ts)) (number class) 
     go : (m n k : ℕ) → false ≡ (n == k) → (not (m == n) && (k == n || false)) ≡ false
     go m n k e = grind (arith, nat_tests)
 
--- items that each begin with one word
-module _ {A X : Type 0} (class : Class) (a : Rule A) (la : Lawful (class ▷ a)) (on : apart (class ▷ a).goes (class ∷ []) ≡ true) (view : X → A) where
-  pub led_ends : (front : List X) (ts : List Lexeme) (whole : Answer (List A)) → with_front (map view front) ((each (class ▷ a)).read ts) ≡ whole
-      → false ≡ (number (first ts) == number class) → whole ≡ Ok (map view front, ts)
-  led_ends front ts whole inv e = front_ends (class ▷ a) la refl on view front ts whole inv (not_first class ts e)
+-- one more item of a list of views
+pub mapped : {A X : Type 0} (view : X → A) (front more : List X) (x : X) → more ≡ front ++ x ∷ [] → map view more ≡ map view front ++ view x ∷ []
+mapped view front more x e = ap (map view) e ∙ map-append view front (x ∷ [])
 
-  pub led_push : (front more : List X) (x : X) (ts after : List Lexeme) (whole : Answer (List A)) → more ≡ front ++ x ∷ [] → first ts ≡ class
-      → a.read (drop 1 ts) ≡ Ok (view x, after) → with_front (map view front) ((each (class ▷ a)).read ts) ≡ whole
-      → with_front (map view more) ((each (class ▷ a)).read after) ≡ whole
+-- items that each begin with one word
+module _ {A : Type 0} (class : Class) (a : Rule A) (la : Lawful (class ▷ a)) (on : apart (class ▷ a).goes (class ∷ []) ≡ true) where
+  pub led_ends : (front : List A) (ts : List Lexeme) (whole : Answer (List A)) → with_front front ((each (class ▷ a)).read ts) ≡ whole
+      → false ≡ (number (first ts) == number class) → whole ≡ Ok (front, ts)
+  led_ends front ts whole inv e = front_ends (class ▷ a) la refl on front ts whole inv (not_first class ts e)
+
+  pub led_bad : (front : List A) (ts : List Lexeme) (whole : Answer (List A)) (n : ℕ) → with_front front ((each (class ▷ a)).read ts) ≡ whole
+      → first ts ≡ class → has (class ∷ []) class ≡ true → a.read (drop 1 ts) ≡ Err n → whole ≡ Err n
+  led_bad front ts whole n inv f c r =
+      front_bad (class ▷ a) la refl on front ts whole n inv (ap (has (class ∷ [])) f ∙ c) (before_read class a ts (Err n) f r)
+
+  pub led_push : (front more : List A) (x : A) (ts after : List Lexeme) (whole : Answer (List A)) → more ≡ front ++ x ∷ [] → first ts ≡ class
+      → a.read (drop 1 ts) ≡ Ok (x, after) → with_front front ((each (class ▷ a)).read ts) ≡ whole → with_front more ((each (class ▷ a)).read after) ≡ whole
   led_push front more x ts after whole is f r inv =
-      front_push (class ▷ a) la refl on view front more x ts after whole is (before_read class a ts (Ok (view x, after)) f r) inv
+      front_push (class ▷ a) la refl on front more x ts after whole is (before_read class a ts (Ok (x, after)) f r) inv

@@ -1,9 +1,8 @@
 -- Tokens between brackets, of which only the brackets count.
-use Rattle.std.specs.Prelude.{◌≡◌, ℕ, suc, Bool, false, List, [], ◌∷◌, ◌++◌, drop, length, Ok, Err, if◌then◌else◌}
-use Rattle.ir_words.specs.Classes.{class_of, first, same}
+use Rattle.std.specs.Prelude.{◌≡◌, ℕ, suc, Bool, false, List, [], ◌∷◌, ◌++◌, length, Ok, Err, if◌then◌else◌}
+use Rattle.ir_words.specs.Classes.{class_of, same}
 use Rattle.ir_words.specs.Lexemes.{Lexeme}
 use Rattle.ir_words.specs.declared.class.Class.{Class}
-use Rattle.ir_words.specs.declared.class.Class.TheVariants as Classes
 use Rattle.ir_rules.specs.Rules.{Answer, Rule, ◌>>=◌, word}
 use Rattle.ir_rules.specs.declared.bracket.Bracket.{Bracket}
 use Rattle.ir_rules.specs.declared.bracket.Bracket.TheVariants.{Round, Square, Curly, Packed}

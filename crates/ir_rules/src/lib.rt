@@ -3,9 +3,11 @@
 #![tactic(auto)]
 
 mod bracket;
+mod enclosed;
 mod end;
 mod token;
 
 pub use bracket::{Bracket, Role, opener, role_of};
+pub use enclosed::skip_enclosed;
 pub use end::End;
 pub use token::{bad, word};
