@@ -82,12 +82,25 @@ step_skips t bs cs ts (Ok p) s w = (t ∷ w.0, ap (λ l. t ∷ l) w.1, s.0 w.0 w
 step_skips t bs cs ts (Err n) s w = (t ∷ w.0, w.1, w.2, ap (λ l. t ∷ l) w.3, w.4, s.0 (w.0 ++ w.2) w.5, λ vs h. s.1 (w.0 ++ vs) ∙ w.6 vs h)
 
 opens : (t : Lexeme) (a b : Bracket) (bs : List Bracket) → role_of (class_of t) ≡ Opens a → Steps t (b ∷ bs) (a ∷ b ∷ bs)
-opens t a b bs e = (λ us w. (pair t w.0 w.1 w.6.0, w.6.1, w.6.2, ap (λ l. t ∷ l) (w.3 ∙ ap (λ l. tokens_of w.0 ++ w.1 ∷ l) w.6.3 ∙ sym (append_assoc (tokens_of w.0) (w.1 ∷ tokens_of w.6.0) (w.6.1 ∷ w.6.2))),
-    ((a, e, w.5), w.4, w.6.4), w.6.5, w.6.6), λ ts. ap (λ r. skip_on r b bs (suc (length ts)) (λ stack. skip_to stack ts)) e)
+opens t a b bs e = (
+  λ us w. (
+    pair t w.0 w.1 w.6.0,
+    w.6.1,
+    w.6.2,
+    ap (λ l. t ∷ l) (w.3 ∙ ap (λ l. tokens_of w.0 ++ w.1 ∷ l) w.6.3 ∙ sym (append_assoc (tokens_of w.0) (w.1 ∷ tokens_of w.6.0) (w.6.1 ∷ w.6.2))),
+    ((a, e, w.5), w.4, w.6.4),
+    w.6.5,
+    w.6.6,
+  ),
+  λ ts. ap (λ r. skip_on r b bs (suc (length ts)) (λ stack. skip_to stack ts)) e,
+)
 
 closes : (t : Lexeme) (b : Bracket) (bs : List Bracket) → role_of (class_of t) ≡ Closes b → Steps t (b ∷ bs) bs
-closes t b bs e = (λ us w. (none, t, us, refl, tt, e, w), λ ts. ap (λ r. skip_on r b bs (suc (length ts)) (λ stack. skip_to stack ts)) e
-    ∙ ap (λ c. if c then skip_to bs ts else Err (suc (length ts))) (own_bracket b))
+closes t b bs e = (
+  λ us w. (none, t, us, refl, tt, e, w),
+  λ ts. ap (λ r. skip_on r b bs (suc (length ts)) (λ stack. skip_to stack ts)) e
+      ∙ ap (λ c. if c then skip_to bs ts else Err (suc (length ts))) (own_bracket b),
+)
 
 plainly : (t : Lexeme) (b : Bracket) (bs : List Bracket) → role_of (class_of t) ≡ Plain → Steps t (b ∷ bs) (b ∷ bs)
 plainly t b bs e = (λ us w. (plain t w.0, w.1, w.2, ap (λ l. t ∷ l) w.3, (e, w.4), w.5, w.6), λ ts. ap (λ r. skip_on r b bs (suc (length ts)) (λ stack. skip_to stack ts)) e)
@@ -205,12 +218,12 @@ pub enclosed_lawful : (b : Bracket) → Lawful (enclosed b)
 enclosed_lawful b = record {
   splits = enclosed_splits b;
   complete = λ us vs x w g.
-    ap (λ us. (enclosed b).read (us ++ vs)) w.3
-    ∙ enter_read w.0 b w.5 ((tokens_of w.1 ++ w.2 ∷ []) ++ vs)
-    ∙ ap (skip_to (b ∷ [])) (append_assoc (tokens_of w.1) (w.2 ∷ []) vs)
-    ∙ through w.1 b [] (w.2 ∷ vs) w.4
-    ∙ (closes w.2 b [] w.6).1 vs
-    ∙ done vs;
+      ap (λ us. (enclosed b).read (us ++ vs)) w.3
+      ∙ enter_read w.0 b w.5 ((tokens_of w.1 ++ w.2 ∷ []) ++ vs)
+      ∙ ap (skip_to (b ∷ [])) (append_assoc (tokens_of w.1) (w.2 ∷ []) vs)
+      ∙ through w.1 b [] (w.2 ∷ vs) w.4
+      ∙ (closes w.2 b [] w.6).1 vs
+      ∙ done vs;
   some = (opening_of b ∷ closer b ∷ [], tt, example b tt);
   first = λ t ts x w. ap (has (opener b ∷ [])) (ap (λ (l : Lexeme). class_of l) (same_head t ts w.0 _ w.3) ∙ w.5) ∙ opener_starts b;
   may_be_empty = λ x w. absurd (none_there w.0 _ w.3);

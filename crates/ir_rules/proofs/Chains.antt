@@ -43,16 +43,16 @@ module _ {S A : Type 0} (starts goes : List Class) (rule : S → Rule A) (next :
     fuel_same (suc n) zero s (t ∷ ts) h k = absurd (omega (arith, k))
     fuel_same (suc n) (suc m) s ts h k =
         agree s ts (begins starts ts) ((rule s).read ts) ((laws s).splits ts) (λ p. chain_read starts rule next n (next s p.0) p.1 >>= with_item p.0)
-          (λ p. chain_read starts rule next m (next s p.0) p.1 >>= with_item p.0)
-          (λ p l. ap (λ o. o >>= with_item p.0) (fuel_same n m (next s p.0) p.1 (omega (arith, h, l)) (omega (arith, k, l))))
+        (λ p. chain_read starts rule next m (next s p.0) p.1 >>= with_item p.0)
+        (λ p l. ap (λ o. o >>= with_item p.0) (fuel_same n m (next s p.0) p.1 (omega (arith, h, l)) (omega (arith, k, l))))
 
     -- one step, with no bound
     pub chain_step : (s : S) (ts : List Lexeme) → (items s).read ts ≡ (if begins starts ts then ((rule s).read ts >>= item_and s) else Ok ([], ts))
     chain_step s [] = refl
     chain_step s (t ∷ ts) =
         agree s (t ∷ ts) (begins starts (t ∷ ts)) ((rule s).read (t ∷ ts)) ((laws s).splits (t ∷ ts))
-          (λ p. chain_read starts rule next (length ts) (next s p.0) p.1 >>= with_item p.0) (item_and s)
-          (λ p l. ap (λ o. o >>= with_item p.0) (fuel_same (length ts) (length p.1) (next s p.0) p.1 (omega (arith, l)) (omega arith)))
+        (λ p. chain_read starts rule next (length ts) (next s p.0) p.1 >>= with_item p.0) (item_and s)
+        (λ p l. ap (λ o. o >>= with_item p.0) (fuel_same (length ts) (length p.1) (next s p.0) p.1 (omega (arith, l)) (omega arith)))
 
     pub chain_ends : (s : S) (ts : List Lexeme) → begins starts ts ≡ false → (items s).read ts ≡ Ok ([], ts)
     chain_ends s ts e = chain_step s ts ∙ ap (λ b. if b then ((rule s).read ts >>= item_and s) else Ok ([], ts)) e
@@ -98,9 +98,17 @@ module _ {S A : Type 0} (starts goes : List Class) (rule : S → Rule A) (next :
         → Splits (items s) ts (o >>= item_and s)
     item_splits s ts (Ok p) b w ih =
         more_splits s ts w.0 p ((items (next s p.0)).read p.1) b w.1 w.2 w.3 (ih p (shorter s ts w.0 p.1 p.0 w.1 w.2))
-    item_splits s ts (Err n) b w ih =
-        (w.0, w.1, w.2, w.3 ∷ [], w.4, w.5, (w.0 ++ w.2, [], sym (append-nil (w.0 ++ w.2)), w.6, refl), λ vs h.
-          chain_goes s (w.0 ++ vs) (stays ts w.0 w.1 vs true b w.4 h) ∙ ap (λ o. o >>= item_and s) (w.7 vs h))
+    item_splits s ts (Err n) b w ih = (
+      w.0,
+      w.1,
+      w.2,
+      w.3 ∷ [],
+      w.4,
+      w.5,
+      (w.0 ++ w.2, [], sym (append-nil (w.0 ++ w.2)), w.6, refl),
+      λ vs h.
+          chain_goes s (w.0 ++ vs) (stays ts w.0 w.1 vs true b w.4 h) ∙ ap (λ o. o >>= item_and s) (w.7 vs h),
+    )
 
     splits_by : (s : S) (ts : List Lexeme)
         → ((p : A × List Lexeme) → suc (length p.1) ≤ length ts → Splits (items (next s p.0)) p.1 ((items (next s p.0)).read p.1))

@@ -1,11 +1,12 @@
 -- The combinators made of others keep the laws.
-use Rattle.std.proofs.Common.{◌≡◌, true, false, List, [], ◌∷◌, Some, None, refl}
+use Rattle.std.proofs.Common.{◌≡◌, true, false, ◌&&◌, List, [], ◌∷◌, Some, None, refl}
 use Rattle.ir_words.specs.Classes.{class_of}
+use Rattle.ir_lex.specs.declared.kind.Kind.TheVariants as kind
 use Rattle.ir_words.specs.Lexemes.{Lexeme}
 use Rattle.ir_words.specs.declared.class.Class.{Class}
-use Rattle.ir_rules.specs.Rules.{Rule, ◌▷◌, ◌◁◌, apart, dropped, each, has, is_word, made, nothing, option, seq, word}
+use Rattle.ir_rules.specs.Rules.{Rule, ◌▷◌, ◌◁◌, apart, commas, commas_some, dropped, each, has, is_word, made, nothing, option, seq, word}
 use Rattle.ir_rules.proofs.Chains.{each_lawful}
-use Rattle.ir_rules.proofs.Laws.{Lawful, either_lawful, made_lawful, nothing_lawful, seq_lawful, word_lawful}
+use Rattle.ir_rules.proofs.Laws.{Lawful, either_lawful, made_lawful, nothing_lawful, sample, seq_lawful, word_lawful}
 
 -- t is a token of the class
 pub before_lawful : {A : Type 0} (class : Class) (t : Lexeme) → is_word class (class_of t) t.text ≡ Some tt → has (class ∷ []) class ≡ true → (a : Rule A) → Lawful a → Lawful (class ▷ a)
@@ -23,3 +24,16 @@ option_lawful {A} a la e =
 
 pub dropped_lawful : {A : Type 0} (a : Rule A) → Lawful a → a.empty ≡ false → apart a.goes a.starts ≡ true → Lawful (dropped a)
 dropped_lawful {A} a la e on = made_lawful (λ (xs : List A). tt) (each a) (each_lawful a la e on)
+
+-- parted by commas, one or more; what an item goes on with is no comma
+pub commas_some_lawful : {A : Type 0} (a : Rule A) → Lawful a → apart a.goes (Class.Comma ∷ []) ≡ true → apart (Class.Comma ▷ a).goes (Class.Comma ∷ []) ≡ true
+    → Lawful (commas_some a)
+commas_some_lawful {A} a la on again =
+    made_lawful (λ (z : A × List A). z.0 ∷ z.1) (seq a (each (Class.Comma ▷ a)))
+    (seq_lawful a (each (Class.Comma ▷ a)) la
+    (each_lawful (Class.Comma ▷ a) (before_lawful Class.Comma (sample kind.Comma []) refl refl a la) refl again) on)
+
+-- none or more
+pub commas_lawful : {A : Type 0} (a : Rule A) → Lawful a → (a.empty && true) ≡ false → apart a.goes (Class.Comma ∷ []) ≡ true
+    → apart (Class.Comma ▷ a).goes (Class.Comma ∷ []) ≡ true → Lawful (commas a)
+commas_lawful a la e on again = either_lawful (commas_some a) (nothing []) (commas_some_lawful a la on again) (nothing_lawful []) e refl

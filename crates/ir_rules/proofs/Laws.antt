@@ -161,9 +161,16 @@ module _ {A B : Type 0} (a : Rule A) (b : Rule B) where
           ap (λ ws. a.read ws >>= (λ (p : A × List Lexeme). second p)) (append_assoc us w.0 vs)
           ∙ ap (λ o. o >>= (λ (p : A × List Lexeme). second p)) (on (w.0 ++ vs) (ap head w.1 ∙ head-append w.0 q.1 vs h))
           ∙ ap (λ o. o >>= (λ (q : B × List Lexeme). pair p.0 q)) (w.3 vs h)
-  seq_second ts us p (Err n) e t on w =
-      (us ++ w.0, w.1, w.2, (p.0, w.3), e ∙ ap (λ ws. us ++ ws) w.4 ∙ sym (append_assoc us w.0 w.1), w.5,
-        (us, w.0 ++ w.2, append_assoc us w.0 w.2, t, w.6), λ vs h. again vs h)
+  seq_second ts us p (Err n) e t on w = (
+    us ++ w.0,
+    w.1,
+    w.2,
+    (p.0, w.3),
+    e ∙ ap (λ ws. us ++ ws) w.4 ∙ sym (append_assoc us w.0 w.1),
+    w.5,
+    (us, w.0 ++ w.2, append_assoc us w.0 w.2, t, w.6),
+    λ vs h. again vs h,
+  )
     where
       again : (vs : List Lexeme) → head w.1 ≡ head vs → (seq a b).read ((us ++ w.0) ++ vs) ≡ Err (length vs)
       again vs h =
@@ -188,7 +195,7 @@ module _ {A B : Type 0} (a : Rule A) (b : Rule B) where
         → has (seq a b).starts (class_of t) ≡ true
     seq_first [] ws t ts x y e m n =
         subst (λ e. has (a.starts ++ when e b.starts) (class_of t) ≡ true) (sym (la.may_be_empty x m))
-          (has_right a.starts b.starts (class_of t) (lb.first t ts y (subst (λ l. b.text l y) (sym e) n)))
+        (has_right a.starts b.starts (class_of t) (lb.first t ts y (subst (λ l. b.text l y) (sym e) n)))
     seq_first (u ∷ us) ws t ts x y e m n = has_left a.starts (when a.empty b.starts) (class_of t) (subst (λ v. has a.starts (class_of v) ≡ true) same (la.first u us x m))
       where
         same : u ≡ t
@@ -202,10 +209,10 @@ module _ {A B : Type 0} (a : Rule A) (b : Rule B) where
     seq_lawful = record {
       splits = λ ts. seq_splits lb.some.0 lb.some.1 lb.some.2 lb.splits ts (a.read ts) (la.splits ts);
       complete = λ us vs z w g.
-        ap (λ ws. a.read (ws ++ vs) >>= (λ (p : A × List Lexeme). second p)) w.2
-        ∙ ap (λ ws. a.read ws >>= (λ (p : A × List Lexeme). second p)) (append_assoc w.0 w.1 vs)
-        ∙ ap (λ o. o >>= (λ (p : A × List Lexeme). second p)) (la.complete w.0 (w.1 ++ vs) z.0 w.3 (stops w.1 vs z.1 w.4 g))
-        ∙ ap (λ o. o >>= (λ (q : B × List Lexeme). pair z.0 q)) (lb.complete w.1 vs z.1 w.4 (not_left b.goes (when b.empty a.goes) (first vs) g));
+          ap (λ ws. a.read (ws ++ vs) >>= (λ (p : A × List Lexeme). second p)) w.2
+          ∙ ap (λ ws. a.read ws >>= (λ (p : A × List Lexeme). second p)) (append_assoc w.0 w.1 vs)
+          ∙ ap (λ o. o >>= (λ (p : A × List Lexeme). second p)) (la.complete w.0 (w.1 ++ vs) z.0 w.3 (stops w.1 vs z.1 w.4 g))
+          ∙ ap (λ o. o >>= (λ (q : B × List Lexeme). pair z.0 q)) (lb.complete w.1 vs z.1 w.4 (not_left b.goes (when b.empty a.goes) (first vs) g));
       some = (la.some.0 ++ lb.some.0, (la.some.1, lb.some.1), (la.some.0, lb.some.0, refl, la.some.2, lb.some.2));
       first = λ t ts z w. seq_first w.0 w.1 t ts z.0 z.1 w.2 w.3 w.4;
       may_be_empty = λ z w. seq_empty w.0 w.1 z.0 z.1 w.2 w.3 w.4;
@@ -250,7 +257,7 @@ module _ {A : Type 0} (a b : Rule A) where
     right_complete : (us vs : List Lexeme) (x : A) → b.text us x → begins (either a b).goes vs ≡ false → (either a b).read (us ++ vs) ≡ Ok (x, vs)
     right_complete [] vs x t g =
         by_first vs false (not_right b.goes a.starts (first vs)
-          (subst (λ e. begins (b.goes ++ when e a.starts) vs ≡ false) (lb.may_be_empty x t) (not_right a.goes (b.goes ++ when b.empty a.starts) (first vs) g)))
+        (subst (λ e. begins (b.goes ++ when e a.starts) vs ≡ false) (lb.may_be_empty x t) (not_right a.goes (b.goes ++ when b.empty a.starts) (first vs) g)))
         ∙ lb.complete [] vs x t (right_goes vs g)
     right_complete (u ∷ us) vs x t g =
         by_first (u ∷ (us ++ vs)) false (apart_is b.starts a.starts (class_of u) apart_ones (lb.first u us x t))

@@ -6,7 +6,7 @@ use Rattle.std.proofs.lemmas.List.{append-nil, map-append}
 use Rattle.ir_words.specs.declared.class.Class.{Class}
 use Rattle.ir_words.specs.Lexemes.{Lexeme}
 use Rattle.ir_rules.specs.Rules.{Answer, Rule, ◌>>=◌, apart, begins, each, has, one_read, ◌▷◌, with_item}
-use Rattle.ir_rules.proofs.Chains.{chain_ends, chain_goes, item_and, read_starts}
+use Rattle.ir_rules.proofs.Chains.{chain_ends, chain_goes, item_and, items, read_starts}
 use Rattle.ir_rules.proofs.Laws.{Lawful}
 
 abbrev with_word : {A : Type 0} → A × List Lexeme → Answer (Unit {0} × A)
@@ -101,3 +101,26 @@ module _ {A : Type 0} (class : Class) (a : Rule A) (la : Lawful (class ▷ a)) (
       → a.read (drop 1 ts) ≡ Ok (x, after) → with_front front ((each (class ▷ a)).read ts) ≡ whole → with_front more ((each (class ▷ a)).read after) ≡ whole
   led_push front more x ts after whole is f r inv =
       front_push (class ▷ a) la refl on front more x ts after whole is (before_read class a ts (Ok (x, after)) f r) inv
+
+-- items by states: s is the state before ts
+module _ {S A : Type 0} (starts goes : List Class) (rule : S → Rule A) (next : S → A → S) (laws : (s : S) → Lawful (rule s))
+    (some : (s : S) → (rule s).empty ≡ false) where
+  pub state_ends : (s : S) (front : List A) (ts : List Lexeme) (whole : Answer (List A)) → with_front front ((items starts goes rule next s).read ts) ≡ whole
+      → begins starts ts ≡ false → whole ≡ Ok (front, ts)
+  state_ends s front ts whole inv e =
+      sym inv ∙ ap (with_front front) (chain_ends starts goes rule next laws some s ts e) ∙ ap (λ l. Ok (l, ts)) (append-nil front)
+
+  pub state_bad : (s : S) (front : List A) (ts : List Lexeme) (whole : Answer (List A)) (n : ℕ) → with_front front ((items starts goes rule next s).read ts) ≡ whole
+      → begins starts ts ≡ true → (rule s).read ts ≡ Err n → whole ≡ Err n
+  state_bad s front ts whole n inv e r =
+      sym inv
+      ∙ ap (with_front front) (chain_goes starts goes rule next laws some s ts e ∙ ap (λ o. o >>= (λ (p : A × List Lexeme). item_and starts goes rule next s p)) r)
+
+  pub state_push : (s : S) (front more : List A) (x : A) (ts after : List Lexeme) (whole : Answer (List A)) → more ≡ front ++ x ∷ [] → begins starts ts ≡ true
+      → (rule s).read ts ≡ Ok (x, after) → with_front front ((items starts goes rule next s).read ts) ≡ whole
+      → with_front more ((items starts goes rule next (next s x)).read after) ≡ whole
+  state_push s front more x ts after whole is e r inv =
+      ap (λ l. with_front l ((items starts goes rule next (next s x)).read after)) is
+      ∙ sym (front_and front x ((items starts goes rule next (next s x)).read after))
+      ∙ ap (with_front front) (sym (chain_goes starts goes rule next laws some s ts e ∙ ap (λ o. o >>= (λ (p : A × List Lexeme). item_and starts goes rule next s p)) r))
+      ∙ inv

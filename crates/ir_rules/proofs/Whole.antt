@@ -43,9 +43,10 @@ module _ {A : Type 0} (r : Rule A) (lr : Lawful r) where
 
   stops_at : (us bad ts : List Lexeme) (n : ℕ) → ts ≡ us ++ bad → n ≡ length bad → Begins r us
       → ((vs : List Lexeme) → head bad ≡ head vs → (x : A) → r.text (us ++ vs) x → ⊥) → Reads r ts (Err n)
-  stops_at us bad ts n e is front never =
-      (omega (arith, is, ap length e, length-append us bad),
-        subst (IsFirstBad r ts) (place) (first_bad us bad ts e front never))
+  stops_at us bad ts n e is front never = (
+    omega (arith, is, ap length e, length-append us bad),
+    subst (IsFirstBad r ts) (place) (first_bad us bad ts e front never),
+  )
     where
       place : length us ≡ length ts - n
       place = omega (arith, is, ap length e, length-append us bad)
@@ -57,7 +58,7 @@ module _ {A : Type 0} (r : Rule A) (lr : Lawful r) where
       over x [] w = subst (λ us. r.text us x) (sym (w.1 ∙ append-nil w.0)) w.2
       over x (t ∷ rest) w =
           stops_at w.0 (t ∷ rest) ts (suc (length rest)) w.1 refl ([], x, subst (λ us. r.text us x) (sym (append-nil w.0)) w.2)
-            (λ vs h y m. clash vs h y (accepts (w.0 ++ vs) y m) (ap (λ o. o >>= ended) (w.3 vs h)))
+          (λ vs h y m. clash vs h y (accepts (w.0 ++ vs) y m) (ap (λ o. o >>= ended) (w.3 vs h)))
         where
           clash : (vs : List Lexeme) → Some t ≡ head vs → (y : A) → read_all r (w.0 ++ vs) ≡ Ok y → read_all r (w.0 ++ vs) ≡ ended (x, vs) → ⊥
           clash [] h y p q = absurd (cc)

@@ -16,7 +16,6 @@ Ok x >>= next = next x
 Err left >>= next = Err left
 
 infixl 20 ◌>>=◌
-
 abbrev pub is_one : List Class → ℕ → Bool
 is_one [] n = false
 is_one (c ∷ cs) n = number c == n || is_one cs n
@@ -160,7 +159,6 @@ abbrev pub ◌◁◌ : {A : Type 0} → Rule A → Class → Rule A
 
 infixr 30 ◌▷◌
 infixl 31 ◌◁◌
-
 abbrev pub option : {A : Type 0} → Rule A → Rule (Option A)
 option {A} a = either (made (λ (x : A). Some x) a) (nothing None)
 

@@ -3,12 +3,11 @@ ghost use Rattle.std.specs.Prelude.{◌≡◌};
 ghost use Rattle.ir_rules.specs.Balance.{enclosed};
 ghost use Rattle.ir_rules.specs.Reading.{Gives};
 
-use ir_words::Rest;
-use std::alloc::{AllocError, Global};
-
 use crate::bracket::{Bracket, Role, opener, role_of};
 use crate::end::End;
 use crate::token::{bad, word};
+use ir_words::Rest;
+use std::alloc::{AllocError, Global};
 
 /// Skips a bracket, all up to the one that closes it, and that one.
 ///

@@ -4,9 +4,8 @@ ghost use Rattle.ir_rules.specs.Reading.{Gives};
 ghost use Rattle.ir_rules.specs.Rules.{word};
 ghost use Rattle.ir_rules.specs.declared.end.End.TheVariants.{Bad};
 
-use ir_words::{Class, Rest, is_same};
-
 use crate::end::End;
+use ir_words::{Class, Rest, is_same};
 
 /// The first token is bad.
 pub fn bad(rest: &Rest<'_>) -> End
