@@ -1,7 +1,10 @@
 pub mod Balances
 pub mod Chains
 pub mod Derived
+pub mod Examples
 pub mod Laws
+pub mod Leaves
 pub mod Loops
 pub mod Sets
 pub mod Whole
+pub mod Words

@@ -1,3 +1,4 @@
 pub mod Balance
+pub mod Leaves
 pub mod Reading
 pub mod Rules
