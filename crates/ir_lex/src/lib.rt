@@ -21,3 +21,4 @@ mod tests;
 pub use kind::{Kind, Token};
 pub use lexer::tokens;
 pub use list::{LexEnd, Tokens};
+pub use literal::is_in_range;

@@ -25,7 +25,7 @@ fn is_at_most(digits: &[u8], limit: u128) -> bool
 
 /// Whether a literal lies from -2^127 to 2^128 - 1.
 #[tactic(auto, unfolding(crate::specs::Literals::is_in_range, crate::specs::Lengths::minus_len))]
-pub(crate) fn is_in_range(text: &[u8]) -> bool
+pub fn is_in_range(text: &[u8]) -> bool
     ensures { result ≡ is_in_range text.now }
 {
     let minus = minus_len(text);

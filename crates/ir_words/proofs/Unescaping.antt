@@ -27,7 +27,7 @@ one_more quoted name all at len byte step inside room b s some kept =
     ∙ ap (λ xs. take len name ++ xs) (sym here)
     ∙ kept
 
-none_left : (quoted : List ℕ) (at : ℕ) → length quoted ≤ at → left_of quoted at ≡ []
+pub none_left : (quoted : List ℕ) (at : ℕ) → length quoted ≤ at → left_of quoted at ≡ []
 unfolding unescaped_after
 none_left quoted at end = at_drop_all (λ xs. unescaped_after 0 xs) quoted at end
 

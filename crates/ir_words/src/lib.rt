@@ -18,4 +18,7 @@ mod word;
 pub use class::Class;
 pub use equality::is_same;
 pub use lexeme::{class_in, is_table};
+pub use quoted::{escape_byte, escape_len};
 pub use rest::Rest;
+pub use slice::{byte_at, front_of, rest_of};
+pub use width::are_digits;

@@ -44,7 +44,7 @@ fn is_numbered(bytes: &[u8]) -> bool
 
 /// How many bytes at the front stand for one.
 #[tactic(auto, unfolding(ir_lex::specs::Escapes::escape_len))]
-fn escape_len(bytes: &[u8]) -> usize
+pub fn escape_len(bytes: &[u8]) -> usize
     ensures value { result ≡ escape_len bytes.now }
     ensures some { 0 < result }
     ensures within { result ≤ 3 }
@@ -60,7 +60,7 @@ fn escape_len(bytes: &[u8]) -> usize
 
 /// The byte that these at the front stand for.
 #[tactic(auto, unfolding(ir_lex::specs::Escapes::escape_byte))]
-fn escape_byte(bytes: &[u8]) -> u8
+pub fn escape_byte(bytes: &[u8]) -> u8
     ensures { result ≡ escape_byte bytes.now }
 {
     if is_numbered(bytes) {

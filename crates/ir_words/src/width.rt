@@ -8,7 +8,7 @@ ghost use Rattle.ir_words.specs.Words.{is_digits, is_width};
 use crate::slice::byte_at;
 
 /// Whether all bytes are digits.
-fn are_digits(mut text: &[u8]) -> bool
+pub fn are_digits(mut text: &[u8]) -> bool
     ensures { result ≡ list_all is_digit text.entry.now }
 {
     while let [byte, rest @ ..] = text {
