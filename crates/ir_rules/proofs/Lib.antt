@@ -1,7 +1,10 @@
 pub mod Balances
+pub mod ChainLoops
 pub mod Chains
 pub mod Derived
 pub mod Examples
+pub mod Folds
+pub mod Fronts
 pub mod Laws
 pub mod Leaves
 pub mod Loops

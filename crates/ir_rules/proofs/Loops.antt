@@ -1,13 +1,15 @@
 -- The steps of a loop that reads items into a list.
-use Rattle.std.proofs.Common.{◌≡◌, not, ◌&&◌, ◌||◌, ℕ, Bool, true, false, List, [], ◌∷◌, ◌++◌, Ok, Err, Some, None, ◌==◌, arith, drop, length, if◌then◌else◌, ap, append_assoc, map, refl, sym, ◌∙◌}
+use Rattle.std.proofs.Common.{◌≡◌, not, ◌&&◌, ◌||◌, ℕ, Bool, true, false, List, [], ◌∷◌, ◌++◌, Ok, Err, Some, None, ◌==◌, ◌<◌, arith, drop, length, if◌then◌else◌, ap, append_assoc, map, refl, sym, ◌∙◌}
 use Rattle.std.proofs.lemmas.Bool.Decides.{nat_tests}
 use Rattle.ir_words.specs.Classes.{first, number, same}
 use Rattle.std.proofs.lemmas.List.{append-nil, map-append}
 use Rattle.ir_words.specs.declared.class.Class.{Class}
+use Rattle.ir_words.specs.declared.class.Class.TheVariants as Classes
 use Rattle.ir_words.specs.Lexemes.{Lexeme}
-use Rattle.ir_rules.specs.Rules.{Answer, Rule, ◌>>=◌, apart, begins, each, has, one_read, ◌▷◌, with_item}
+use Rattle.ir_rules.specs.Rules.{Answer, Rule, ◌>>=◌, apart, begins, commas_some, each, has, one_read, ◌▷◌, with_item}
 use Rattle.ir_rules.proofs.Chains.{chain_ends, chain_goes, item_and, items, read_starts}
 use Rattle.ir_rules.proofs.Laws.{Lawful}
+use Rattle.ir_rules.proofs.Whole.{read_shorter}
 
 abbrev with_word : {A : Type 0} → A × List Lexeme → Answer (Unit {0} × A)
 with_word q = Ok ((tt, q.0), q.1)
@@ -34,6 +36,24 @@ before_read {A} class a ts o e r =
     ∙ ap (word_and a ts) (itself (number class))
     ∙ ap (λ o. (o >>= (λ (q : A × List Lexeme). with_word q)) >>= (λ (p : (Unit {0} × A) × List Lexeme). keep p)) r
     ∙ kept o
+
+-- the same, by the numbers of the classes
+pub word_read : {A : Type 0} (class : Class) (a : Rule A) (ts : List Lexeme) (o : Answer A) → true ≡ (number (first ts) == number class) → a.read (drop 1 ts) ≡ o
+    → (class ▷ a).read ts ≡ o
+word_read {A} class a ts o e r =
+    ap (word_and a ts) (turned (number (first ts)) (number class) e)
+    ∙ ap (λ o. (o >>= (λ (q : A × List Lexeme). with_word q)) >>= (λ (p : (Unit {0} × A) × List Lexeme). keep p)) r
+    ∙ kept o
+  where
+    turned : (n k : ℕ) → true ≡ (n == k) → (k == n) ≡ true
+    turned n k e = grind (arith, nat_tests)
+
+-- a word that stands there begins an item
+pub is_first : (class : Class) (ts : List Lexeme) → true ≡ (number (first ts) == number class) → has (class ∷ []) class ≡ true → begins (class ∷ []) ts ≡ true
+is_first class ts e h = go (number Class.End) (number (first ts)) (number class) e h
+  where
+    go : (m n k : ℕ) → true ≡ (n == k) → (not (m == k) && (k == k || false)) ≡ true → (not (m == n) && (k == n || false)) ≡ true
+    go m n k e h = grind (arith, nat_tests)
 
 -- an answer after these items
 abbrev pub with_front : {A : Type 0} → List A → Answer (List A) → Answer (List A)
@@ -76,7 +96,7 @@ module _ {A : Type 0} (a : Rule A) (la : Lawful a) (some : a.empty ≡ false) (o
       begun : begins a.starts ts ≡ true
       begun = read_starts {S = Unit {0}} a.starts a.goes (λ s. a) (λ s x. s) (λ s. la) (λ s. some) (λ s c h. h) (λ s c h. h) on tt ts (x, after) r
 
-not_first : (class : Class) (ts : List Lexeme) → false ≡ (number (first ts) == number class) → begins (class ∷ []) ts ≡ false
+pub not_first : (class : Class) (ts : List Lexeme) → false ≡ (number (first ts) == number class) → begins (class ∷ []) ts ≡ false
 not_first class ts e = go (number Class.End) (number (first ts)) (number class) e
   where
     go : (m n k : ℕ) → false ≡ (n == k) → (not (m == n) && (k == n || false)) ≡ false
@@ -124,3 +144,26 @@ module _ {S A : Type 0} (starts goes : List Class) (rule : S → Rule A) (next :
       ∙ sym (front_and front x ((items starts goes rule next (next s x)).read after))
       ∙ ap (with_front front) (sym (chain_goes starts goes rule next laws some s ts e ∙ ap (λ o. o >>= (λ (p : A × List Lexeme). item_and starts goes rule next s p)) r))
       ∙ inv
+
+-- the first of items parted by commas, before the others
+pub commas_begin : {A : Type 0} (a : Rule A) (x : A) (front : List A) (ts after : List Lexeme) → front ≡ x ∷ [] → a.read ts ≡ Ok (x, after)
+    → with_front front ((each (Classes.Comma ▷ a)).read after) ≡ (commas_some a).read ts
+commas_begin {A} a x front ts after is r =
+    ap (λ l. with_front l ((each (Classes.Comma ▷ a)).read after)) is
+    ∙ joined ((each (Classes.Comma ▷ a)).read after)
+    ∙ ap (λ o. o >>= more >>= join) (sym r)
+  where
+    join : (A × List A) × List Lexeme → Answer (List A)
+    join p = Ok (p.0.0 ∷ p.0.1, p.1)
+
+    more : A × List Lexeme → Answer (A × List A)
+    more p = (each (Classes.Comma ▷ a)).read p.1 >>= (λ (q : List A × List Lexeme). Ok ((p.0, q.0), q.1))
+
+    joined : (o : Answer (List A)) → with_front (x ∷ []) o ≡ ((o >>= (λ (q : List A × List Lexeme). Ok ((x, q.0), q.1))) >>= join)
+    joined (Ok q) = refl
+    joined (Err n) = refl
+
+-- an item after a word leaves fewer tokens
+pub led_shorter : {A : Type 0} (class : Class) (a : Rule A) → Lawful (class ▷ a) → (x : A) (ts after : List Lexeme) → true ≡ (number (first ts) == number class)
+    → a.read (drop 1 ts) ≡ Ok (x, after) → length after < length ts
+led_shorter class a la x ts after f r = read_shorter (class ▷ a) la refl ts (x, after) (word_read class a ts (Ok (x, after)) f r)

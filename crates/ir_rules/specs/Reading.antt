@@ -39,3 +39,14 @@ abbrev pub Gives : {T A : Type 0} → (T → A) → Result T End → Result A �
 Gives view (Ok x) read = read ≡ Ok (view x)
 Gives view (Err NoMemory) read = Unit {0}
 Gives view (Err (Bad left)) read = read ≡ Err left
+
+-- What is read at the front: the tokens are a text with this tree and then the rest, and no text at
+-- the front has more tokens.
+pub record IsFront {A : Type 0} (r : Rule A) (ts : List Lexeme) (x : A) (rest : List Lexeme) : Type 0 where
+  pub text : (us : List Lexeme) × (ts ≡ us ++ rest) × r.text us x
+  pub longest : (us vs : List Lexeme) (y : A) → ts ≡ us ++ vs → r.text us y → length rest ≤ length vs
+
+-- where the front has no text: its first bad token, unless memory ran out
+abbrev pub StopsAt : {A : Type 0} → Rule A → List Lexeme → End → Type 0
+StopsAt r ts NoMemory = Unit {0}
+StopsAt r ts (Bad left) = Reads r ts (Err left)
