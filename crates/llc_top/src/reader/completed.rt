@@ -10,8 +10,8 @@ use crate::reader::stop::Stop;
 use crate::reader::value::value_of;
 use crate::reader::word::{after, after_type};
 use ir_syntax::{
-    Block, Blocks, Function, Identifier, Instrs, Linkage, Name, NameUse, Operand, Phis, Term, TyText,
-    Visibility,
+    Block, Blocks, Function, Identifier, Instrs, Linkage, Name, NameUse, Operand, Phis, Term,
+    TyText, Visibility,
 };
 use std::alloc::{AllocError, Global};
 

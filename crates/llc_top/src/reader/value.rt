@@ -57,7 +57,5 @@ pub(crate) fn value_of(alloc: Global, params: &[Param], text: &[u8]) -> Result<V
     if !has_param(params, name) {
         return Err(Stop::Refused);
     }
-    Ok(Value::Parameter(Identifier::from_vec(Vec::from_slice(
-        alloc, name,
-    )?)))
+    Ok(Value::Parameter(Identifier::from_vec(Vec::from_slice(alloc, name)?)))
 }
