@@ -1,0 +1,105 @@
+//! Small blocks, accepted and refused.
+use crate::read_block;
+use ir_lex::tokens;
+use ir_rules::End;
+use ir_words::Rest;
+use std::alloc::Global;
+use std::test::Fail;
+
+/// How a block is read.
+#[derive(Clone, Copy, Debug, PartialEq, Eq)]
+enum Outcome {
+    /// It is one, and so many tokens are left.
+    Read(usize),
+    /// This token is bad, counted from 0.
+    Bad(usize),
+    /// The text was not split, or memory ran out.
+    Other,
+}
+
+/// How a block at the front of tokens is read.
+fn how_block_ends<'t>(alloc: Global, rest: Rest<'t>, first: bool) -> Outcome {
+    let all = rest.len();
+    match read_block(alloc, rest, first) {
+        Ok((_block, rest)) => Outcome::Read(rest.len()),
+        Err(End::Bad(left)) => Outcome::Bad(all.saturating_sub(left)),
+        Err(End::NoMemory) => Outcome::Other,
+    }
+}
+
+/// How the first block of a function is read, or another one.
+fn how_it_ends(alloc: Global, text: &[u8], first: bool) -> Outcome {
+    if text.len() > 16777216 {
+        return Outcome::Other;
+    }
+    match tokens(alloc, text) {
+        Ok(tokens) => how_block_ends(alloc, Rest::of(text, &tokens), first),
+        Err(_end) => Outcome::Other,
+    }
+}
+
+#[test]
+fn blocks_are_read(rt: HostRuntime) -> Result<(), Fail> {
+    let alloc = rt.alloc();
+    assert_eq!(rt; how_it_ends(alloc, b"ret void", true), Outcome::Read(0));
+    assert_eq!(rt;
+        how_it_ends(alloc, b"ret i32 1, !dbg !7 }", true),
+        Outcome::Read(1)
+    );
+    assert_eq!(rt;
+        how_it_ends(alloc, b"%a = alloca i32 unreachable", true),
+        Outcome::Read(0)
+    );
+    assert_eq!(rt;
+        how_it_ends(
+            alloc,
+            b"b: %p = phi i32 [ 0, %a ], [ %x, %b ], !dbg !1 ret i32 %p",
+            false
+        ),
+        Outcome::Read(0)
+    );
+    assert_eq!(rt;
+        how_it_ends(
+            alloc,
+            b"switch i32 %x, label %d [ i32 0, label %a i32 1, label %b ]",
+            false
+        ),
+        Outcome::Read(0)
+    );
+    Ok(())
+}
+
+#[test]
+fn the_first_bad_token_is_named(rt: HostRuntime) -> Result<(), Fail> {
+    let alloc = rt.alloc();
+    assert_eq!(rt; how_it_ends(alloc, b"ret", true), Outcome::Bad(1));
+    assert_eq!(rt;
+        how_it_ends(alloc, b"%a = alloca i32", false),
+        Outcome::Bad(2)
+    );
+    assert_eq!(rt;
+        how_it_ends(alloc, b"%p = phi i32 [ 0, %a ]", true),
+        Outcome::Bad(2)
+    );
+    assert_eq!(rt;
+        how_it_ends(alloc, b"br label %a, label %b", true),
+        Outcome::Bad(4)
+    );
+    assert_eq!(rt;
+        how_it_ends(alloc, b"%x = add i32 1, 2 %p = phi i32 [ 0, %a ]", false),
+        Outcome::Bad(9)
+    );
+    assert_eq!(rt;
+        how_it_ends(alloc, b"%p = phi i32 [ 0, %a ], !dbg !1, [ 1, %b ]", false),
+        Outcome::Bad(13)
+    );
+    assert_eq!(rt;
+        how_it_ends(
+            alloc,
+            b"switch i32 %x, label %d [ i32 0, label %a, i32 1",
+            false
+        ),
+        Outcome::Bad(12)
+    );
+    Ok(())
+}

@@ -1,0 +1,61 @@
+//! Basic blocks (LangRef, "Functions").
+ghost use Rattle.std.specs.Prelude.{◌≡◌};
+ghost use Rattle.ir_body.specs.Blocks.{blocks, first_place, labels};
+ghost use Rattle.ir_rules.specs.Reading.{Gives};
+ghost use Rattle.ir_rules.specs.Rules.{option};
+
+use crate::names::name_of;
+use crate::statement::Place;
+use crate::statements::read_block_parts;
+use crate::terms::read_term;
+use ir_rules::End;
+use ir_syntax::{Block, Name};
+use ir_words::{Class, Rest};
+use std::alloc::Global;
+
+/// Reads a label where one stands.
+fn read_label<'t>(alloc: Global, rest: Rest<'t>) -> Result<(Option<Name>, Rest<'t>), End>
+    ensures { Gives (λ x. x) result ((option labels).read rest.entry) }
+{
+    match rest.first() {
+        Class::Label => {
+            let text = rest.text();
+            let name = name_of(alloc, &text[..text.len().saturating_sub(1)])?;
+            Ok((Some(name), rest.skip()))
+        }
+        _ => Ok((None, rest)),
+    }
+}
+
+/// The place at the front of the first block of a function, or of another one.
+fn first_place(first: bool) -> Place
+    ensures { result ≡ first_place first }
+{
+    if first { Place::Entry } else { Place::PhisOnly }
+}
+
+/// Reads a block; the first one of a function or another.
+#[tactic(auto, unfolding(crate::specs::Blocks::block_forms))]
+pub(crate) fn read_block_text<'t>(
+    alloc: Global,
+    rest: Rest<'t>,
+    first: bool,
+) -> Result<(Block, Rest<'t>), End>
+    ensures { Gives (λ x. x) result ((blocks first).read rest.entry) }
+{
+    let line = rest.line();
+    let (label, rest) = read_label(alloc, rest)?;
+    let ((phis, instrs), rest) = read_block_parts(alloc, rest, first_place(first))?;
+    let (term, rest) = read_term(alloc, rest)?;
+    let label = label.unwrap_or(Name::Implicit);
+    Ok((
+        Block {
+            line,
+            label,
+            phis,
+            instrs,
+            term,
+        },
+        rest,
+    ))
+}

@@ -1,0 +1,33 @@
+//! What stands in a block before its terminator (LangRef, "Functions").
+use ir_syntax::{Instr, Op, Phi, PhiEntries, TyText};
+
+/// A phi or an operation, without its line and its name.
+#[derive(Debug, Drop)]
+pub(crate) enum Doing {
+    /// A phi: its type and its entries.
+    Joins(TyText, PhiEntries),
+    /// An operation; none for a call that is dropped.
+    Does(Option<Op>),
+}
+
+/// What stands before the terminator.
+#[derive(Debug, Drop)]
+pub(crate) enum Statement {
+    /// A phi.
+    Joining(Phi),
+    /// An instruction.
+    Kept(Instr),
+    /// A call that is dropped.
+    Dropped,
+}
+
+/// Which block it is, and what stood in it so far.
+#[derive(Clone, Copy, Debug, PartialEq, Eq)]
+pub(crate) enum Place {
+    /// The first block of a function.
+    Entry,
+    /// Another block, in which only phis stood so far.
+    PhisOnly,
+    /// Another block, behind its phis.
+    AfterPhis,
+}
