@@ -1,0 +1,4 @@
+pub mod Counts
+pub mod FaultLemmas
+pub mod Lines
+pub mod SetLemmas

@@ -1,0 +1,33 @@
+-- Sets of names after one more.
+use Rattle.std.proofs.Common.{◌≡◌, ◌∙◌, ◌+◌, ℕ, Bool, true, false, cond, ◌&&◌, ◌||◌, nat_eq, ◌<◌, ◌≤◌, zero, suc, length, take, get_or, List, [], ◌∷◌, bytes_eq, refl, sym, ap, arith}
+use Rattle.std.proofs.lemmas.Bool.Decides.{nat_tests}
+use Rattle.std.proofs.lemmas.List.Folds.{list_any_more}
+use Rattle.ir_names.specs.Faults.{is_defined, same_site}
+use Rattle.ir_names.specs.Sites.{Site}
+
+pub nat_eq_turned : (a b : ℕ) → nat_eq a b ≡ nat_eq b a
+nat_eq_turned a b = grind (arith, nat_tests)
+
+pub bytes_eq_turned : (a b : List ℕ) → bytes_eq a b ≡ bytes_eq b a
+bytes_eq_turned [] [] = refl
+bytes_eq_turned [] (y ∷ ys) = refl
+bytes_eq_turned (x ∷ xs) [] = refl
+bytes_eq_turned (x ∷ xs) (y ∷ ys) = λ i. nat_eq_turned x y i && bytes_eq_turned xs ys i
+
+pub or_last : (here there : Bool) → cond here true there ≡ (there || here)
+or_last true true = refl
+or_last true false = refl
+or_last false true = refl
+or_last false false = refl
+
+pub take_whole : {A : Type 0} (xs : List A) (i : ℕ) → length xs ≤ i → take i xs ≡ xs
+take_whole [] zero h = refl
+take_whole [] (suc i) h = refl
+take_whole (x ∷ xs) zero h = absurd (omega (arith, h))
+take_whole (x ∷ xs) (suc i) h = ap (λ ys. x ∷ ys) (take_whole xs i (omega (arith, h)))
+
+-- one more site
+pub defined_more : (sites : List Site) (i : ℕ) (x s : Site) → i < length sites → x ≡ get_or sites i x →
+    (is_defined (take i sites) s || same_site s x) ≡ is_defined (take (i + 1) sites) s
+defined_more sites i x s inside is =
+    ap (λ y. is_defined (take i sites) s || same_site s y) is ∙ sym (list_any_more (same_site s) sites i x inside)

@@ -1,0 +1,65 @@
+//! What is defined at some sites.
+ghost use Rattle.std.specs.Prelude.{◌≡◌, ◌||◌, false, IfOk, OnOk};
+ghost use Rattle.ir_names.specs.Faults.{is_defined, same_site};
+ghost use Rattle.ir_names.specs.Sets.{knows};
+ghost use Rattle.ir_names.specs.Sites.{Site};
+
+use crate::names::Names;
+use crate::site::{Site, Sort};
+use std::alloc::{AllocError, Global};
+
+/// The names of each sort that are defined.
+#[derive(Debug, Drop)]
+pub(crate) struct Definitions<'a> {
+    pub(crate) types: Names<'a>,
+    pub(crate) globals: Names<'a>,
+    pub(crate) values: Names<'a>,
+    pub(crate) blocks: Names<'a>,
+}
+
+impl<'a> Definitions<'a> {
+    /// What is defined at these sites.
+    pub(crate) fn at(alloc: Global, sites: &[Site<'a>]) -> Result<Definitions<'a>, AllocError>
+        ensures { IfOk result (λ d. (site : Site) → knows d site ≡ is_defined sites.now site) }
+    {
+        let mut all = Definitions::new(alloc);
+        for site in sites {
+            all.insert(site)?;
+        }
+        Ok(all)
+    }
+
+    fn new(alloc: Global) -> Definitions<'a>
+        ensures { (site : Site) → knows result site ≡ false }
+    {
+        Definitions {
+            types: Names::new(alloc),
+            globals: Names::new(alloc),
+            values: Names::new(alloc),
+            blocks: Names::new(alloc),
+        }
+    }
+
+    fn insert(&mut self, site: &Site<'a>) -> Result<(), AllocError>
+        ensures { OnOk result ((other : Site) → knows self.new other ≡ (knows self.old other || same_site other site.now)) }
+    {
+        match site.sort {
+            Sort::NamedType => self.types.insert(site.name),
+            Sort::Global => self.globals.insert(site.name),
+            Sort::Value => self.values.insert(site.name),
+            Sort::Block => self.blocks.insert(site.name),
+        }
+    }
+
+    /// Whether the name of a site is defined.
+    pub(crate) fn has(&self, site: &Site<'_>) -> bool
+        ensures { result ≡ knows self.now site.now }
+    {
+        match site.sort {
+            Sort::NamedType => self.types.has(site.name),
+            Sort::Global => self.globals.has(site.name),
+            Sort::Value => self.values.has(site.name),
+            Sort::Block => self.blocks.has(site.name),
+        }
+    }
+}

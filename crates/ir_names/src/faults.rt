@@ -1,0 +1,129 @@
+//! The first fault of names.
+ghost use Rattle.std.specs.Prelude.{◌≡◌, ◌&&◌, ◌||◌, IfOk, if◌then◌else◌};
+ghost use Rattle.std.specs.List.{flat_map};
+ghost use Rattle.ir_names.specs.Faults.{entity_faults, fault_lines, is_counted, is_other, is_unnamed, line_if, number_faults, use_faults};
+ghost use Rattle.ir_names.specs.Least.{least};
+ghost use Rattle.ir_names.specs.Sets.{knows};
+
+use crate::definitions::Definitions;
+use crate::entity::Entity;
+use crate::items::{push_entities, push_items};
+use crate::least::earlier;
+use crate::site::{Site, Sort};
+use crate::uses::push_entity;
+use ir_syntax::Name;
+use std::alloc::{AllocError, Global};
+
+/// The least line of a fault in these items of a module.
+pub(crate) fn first_fault(alloc: Global, entities: &[Entity]) -> Result<Option<u32>, AllocError>
+    ensures { IfOk result (λ line. line ≡ least (fault_lines entities.now)) }
+{
+    let mut sites = Vec::new(alloc);
+    push_entities(&mut sites, entities)?;
+    let numbers = number_fault(sites.as_slice());
+    let defined = Definitions::at(alloc, sites.as_slice())?;
+    let uses = entities_fault(alloc, &defined, entities)?;
+    Ok(earlier(numbers, uses))
+}
+
+/// The least line of a fault inside these items, where this is what the module defines.
+fn entities_fault(
+    alloc: Global,
+    defined: &Definitions<'_>,
+    entities: &[Entity],
+) -> Result<Option<u32>, AllocError>
+    ensures { IfOk result (λ line. line ≡ least (flat_map (entity_faults (knows defined.now)) entities.now)) }
+{
+    let mut first = None;
+    for entity in entities {
+        first = earlier(first, entity_fault(alloc, defined, entity)?);
+    }
+    Ok(first)
+}
+
+fn entity_fault(
+    alloc: Global,
+    defined: &Definitions<'_>,
+    entity: &Entity,
+) -> Result<Option<u32>, AllocError>
+    ensures { IfOk result (λ line. line ≡ least (entity_faults (knows defined.now) entity.now)) }
+{
+    let mut items = Vec::new(alloc);
+    push_items(&mut items, entity)?;
+    let numbers = number_fault(items.as_slice());
+    let own = Definitions::at(alloc, items.as_slice())?;
+    let mut uses = Vec::new(alloc);
+    push_entity(&mut uses, entity)?;
+    Ok(earlier(numbers, use_fault(defined, &own, uses.as_slice())))
+}
+
+/// The least line of a use of a name that neither knows.
+fn use_fault(defined: &Definitions<'_>, own: &Definitions<'_>, uses: &[Site<'_>]) -> Option<u32>
+    ensures { result ≡ least (flat_map (use_faults (λ s. knows defined.now s || knows own.now s)) uses.now) }
+{
+    let mut first = None;
+    for site in uses {
+        let known = defined.has(site) | own.has(site);
+        first = earlier(first, line_where(!known, site));
+    }
+    first
+}
+
+/// The least line of a number that is not the next one.
+fn number_fault(sites: &[Site<'_>]) -> Option<u32>
+    ensures { result ≡ least (number_faults sites.now) }
+{
+    let mut first = None;
+    let mut next = 0u64;
+    for site in sites {
+        first = earlier(first, line_where(is_misnumbered(next, site), site));
+        next += counted(site);
+    }
+    first
+}
+
+/// The line of a site, if it is a fault.
+fn line_where(fault: bool, site: &Site<'_>) -> Option<u32>
+    ensures { result ≡ least (line_if fault site.now) }
+{
+    if fault { Some(site.line) } else { None }
+}
+
+/// Whether a site's number is written, and is another one than this.
+fn is_misnumbered(next: u64, site: &Site<'_>) -> bool
+    ensures { result ≡ (is_counted site.now.0 && is_other next site.now.1.name) }
+{
+    let other = match site.name {
+        Name::Unnamed(number) => u64::from(*number) != next,
+        Name::Named(_) | Name::Implicit => false,
+    };
+    is_counted(site.sort) & other
+}
+
+/// How many unnamed items a site counts for.
+fn counted(site: &Site<'_>) -> u64
+    ensures { result ≡ (if is_unnamed site.now then 1 else 0) }
+{
+    if is_unnamed(site) { 1 } else { 0 }
+}
+
+/// Whether a site is one of an unnamed item.
+fn is_unnamed(site: &Site<'_>) -> bool
+    ensures { result ≡ is_unnamed site.now }
+{
+    let number = match site.name {
+        Name::Unnamed(_) | Name::Implicit => true,
+        Name::Named(_) => false,
+    };
+    is_counted(site.sort) & number
+}
+
+/// Whether unnamed items of a sort are counted.
+fn is_counted(sort: Sort) -> bool
+    ensures { result ≡ is_counted sort }
+{
+    match sort {
+        Sort::NamedType => false,
+        Sort::Global | Sort::Value | Sort::Block => true,
+    }
+}
