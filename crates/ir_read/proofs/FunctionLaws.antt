@@ -1,0 +1,110 @@
+-- The rules of functions keep the laws.
+use Rattle.std.proofs.Common.{◌≡◌, ℕ, Bool, true, false, List, [], ◌∷◌, Some, None, refl}
+use Rattle.std.specs.Prelude.{Option}
+use Rattle.ir_syntax.specs.Types.{TextTree}
+use Rattle.ir_syntax.specs.declared.block.Block.{Block}
+use Rattle.ir_words.specs.Intrinsics.{begins_with, global_class, global_name, intrinsic_class, name_class}
+use Rattle.ir_words.specs.declared.class.Class.TheVariants as class
+use Rattle.ir_rules.specs.Rules.{◌▷◌, apart}
+use Rattle.ir_rules.proofs.Chains.{each_lawful}
+use Rattle.ir_rules.proofs.Derived.{commas_lawful, dropped_lawful, option_lawful}
+use Rattle.ir_rules.proofs.Laws.{Lawful, either_lawful, made_lawful, seq_lawful, within_lawful}
+use Rattle.ir_rules.proofs.Leaves.{ending_lawful, leading_lawful, leaf_lawful, lined_lawful}
+use Rattle.ir_rules.proofs.Examples.{example}
+use Rattle.ir_rules.proofs.Words.{after_law, before_law, means_law, word_law}
+use Rattle.ir_body.specs.Names.{name_of, use_of}
+use Rattle.ir_body.specs.Values.{global_uses_in}
+use Rattle.ir_body.proofs.AttributeLaws.{an_attribute_law, attachment_law, attributes_law}
+use Rattle.ir_body.proofs.BlockLaws.{blocks_law}
+use Rattle.ir_body.proofs.TypeLaws.{local_names_law, result_types_law, types_law}
+use Rattle.ir_body.proofs.ValueLaws.{global_uses_law}
+use Rattle.ir_read.specs.Functions.{block_lists, bodies, body_forms, bracketed, declaration_forms, declaration_of, declarations, declared_end_forms, declared_ends, declared_name_forms, declared_names, declared_signatures, defined_end_forms, defined_ends, defined_name_forms, defined_names, defined_signatures, definition_forms, definition_of, definitions, metadata_param_forms, metadata_params, param_forms, param_name_forms, param_names, param_of, params, params_in, signature_forms}
+use Rattle.ir_read.proofs.HeadLaws.{linkage_law, visibility_law}
+
+pub param_names_law : Lawful param_names
+unfolding param_name_forms
+param_names_law = within_lawful _ _ _ _ (seq_lawful _ _ attributes_law (option_lawful _ (lined_lawful _ local_names_law refl) refl) refl) refl refl refl
+
+pub params_law : Lawful params
+unfolding param_forms
+params_law =
+    within_lawful _ _ _ _ (made_lawful param_of _ (lined_lawful _ (seq_lawful _ _ (made_lawful (λ (t : TextTree). Some t) _ (types_law 64)) param_names_law refl) refl)) refl refl refl
+
+pub metadata_params_law : Lawful metadata_params
+unfolding metadata_param_forms
+metadata_params_law =
+    within_lawful _ _ _ _ (made_lawful param_of _ (lined_lawful _ (seq_lawful _ _
+    (either_lawful _ _ (means_law class.Metadata None refl refl) (made_lawful (λ (t : TextTree). Some t) _ (types_law 64)) refl refl) param_names_law refl) refl)) refl refl refl
+
+pub params_in_law : (metadata : Bool) → Lawful (params_in metadata)
+params_in_law true = metadata_params_law
+params_in_law false = params_law
+
+-- no parameter goes on with a comma
+pub next_goes : (metadata : Bool) → apart (class.Comma ▷ params_in metadata).goes (class.Comma ∷ []) ≡ true
+next_goes true = refl
+next_goes false = refl
+
+bracketed_law : Lawful (bracketed params)
+bracketed_law = before_law class.OpenRound _ refl refl (after_law _ class.CloseRound refl refl (commas_lawful _ params_law refl refl refl) refl)
+
+bracketed_metadata_law : Lawful (bracketed metadata_params)
+bracketed_metadata_law = before_law class.OpenRound _ refl refl (after_law _ class.CloseRound refl refl (commas_lawful _ metadata_params_law refl refl refl) refl)
+
+metadata_name_law : Lawful (global_uses_in (class.MetadataIntrinsic ∷ []))
+unfolding name_of global_class global_name name_class begins_with intrinsic_class
+metadata_name_law = made_lawful use_of _ (lined_lawful _ (leaf_lawful _ _ (example class.MetadataIntrinsic) _ refl) refl)
+
+other_name_law : Lawful (global_uses_in (class.Global ∷ class.DroppedIntrinsic ∷ class.Intrinsic ∷ []))
+unfolding name_of global_class global_name name_class begins_with
+other_name_law = made_lawful use_of _ (lined_lawful _ (leaf_lawful _ _ (example class.Global) _ refl) refl)
+
+declared_names_law : Lawful declared_names
+unfolding declared_name_forms
+declared_names_law =
+    within_lawful _ _ _ _ (either_lawful _ _ (seq_lawful _ _ metadata_name_law bracketed_metadata_law refl) (seq_lawful _ _ other_name_law bracketed_law refl) refl refl) refl refl refl
+
+defined_names_law : Lawful defined_names
+unfolding defined_name_forms
+defined_names_law = within_lawful _ _ _ _ (seq_lawful _ _ global_uses_law bracketed_law refl) refl refl refl
+
+declared_signatures_law : Lawful declared_signatures
+unfolding signature_forms
+declared_signatures_law =
+    within_lawful _ _ _ _ (seq_lawful _ _ visibility_law (leading_lawful _ _ attributes_law (seq_lawful _ _ result_types_law declared_names_law refl) refl) refl) refl refl refl
+
+defined_signatures_law : Lawful defined_signatures
+unfolding signature_forms
+defined_signatures_law =
+    within_lawful _ _ _ _ (seq_lawful _ _ visibility_law (leading_lawful _ _ attributes_law (seq_lawful _ _ result_types_law defined_names_law refl) refl) refl) refl refl refl
+
+pub declared_ends_law : Lawful declared_ends
+unfolding declared_end_forms
+declared_ends_law =
+    within_lawful _ _ _ _ (either_lawful _ _ (made_lawful (λ (n : Option ℕ). tt) _ an_attribute_law)
+    (either_lawful _ _ (word_law class.UnnamedAddr refl refl) (word_law class.LocalUnnamedAddr refl refl) refl refl) refl refl) refl refl refl
+
+pub defined_ends_law : Lawful defined_ends
+unfolding defined_end_forms
+defined_ends_law = within_lawful _ _ _ _ (either_lawful _ _ attachment_law declared_ends_law refl refl) refl refl refl
+
+pub block_lists_law : Lawful block_lists
+block_lists_law =
+    made_lawful (λ (z : Block × List Block). z.0 ∷ z.1) _ (seq_lawful _ _ (blocks_law true) (each_lawful _ (blocks_law false) refl refl) refl)
+
+pub bodies_law : Lawful bodies
+unfolding body_forms
+bodies_law = within_lawful _ _ _ _ (before_law class.OpenCurly _ refl refl (after_law _ class.CloseCurly refl refl block_lists_law refl)) refl refl refl
+
+pub declarations_law : Lawful declarations
+unfolding declaration_forms
+declarations_law =
+    within_lawful _ _ _ _ (made_lawful declaration_of _ (lined_lawful _ (before_law class.Declare _ refl refl
+    (leading_lawful _ _ (dropped_lawful _ attachment_law refl refl) (leading_lawful _ _ (option_lawful _ (word_law class.External refl refl) refl)
+    (ending_lawful _ _ declared_signatures_law (dropped_lawful _ declared_ends_law refl refl) refl) refl) refl)) refl)) refl refl refl
+
+pub definitions_law : Lawful definitions
+unfolding definition_forms
+definitions_law =
+    within_lawful _ _ _ _ (made_lawful definition_of _ (lined_lawful _ (before_law class.Define _ refl refl
+    (seq_lawful _ _ linkage_law (seq_lawful _ _ (ending_lawful _ _ defined_signatures_law (dropped_lawful _ defined_ends_law refl refl) refl) bodies_law refl) refl)) refl)) refl refl refl

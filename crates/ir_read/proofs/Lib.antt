@@ -1,0 +1,10 @@
+pub mod BlockStarts
+pub mod Ends
+pub mod EntityLaws
+pub mod FunctionLaws
+pub mod HeadLaws
+pub mod InitialiserLaws
+pub mod Kept
+pub mod Naming
+pub mod Settled
+pub mod VariableLaws

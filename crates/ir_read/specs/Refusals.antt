@@ -1,0 +1,54 @@
+-- What is answered for a text: its items, or why it is refused.
+use Rattle.std.specs.Prelude.{◌≡◌, ℕ, ◌-◌, ◌==◌, ◌⊎◌, List, drop, fold, length, Ok, Err, if◌then◌else◌}
+use Rattle.std.specs.declared.result.Result.{Result}
+use Rattle.ir_lex.specs.Splitting.{tokens_of}
+use Rattle.ir_lex.specs.declared.kind.Token.{Token}
+use Rattle.ir_syntax.specs.declared.refusal.Refusal.{Refusal}
+use Rattle.ir_syntax.specs.declared.refusal.Refusal.TheVariants.{Form, Lex, NoMemory, Unsupported}
+use Rattle.ir_words.specs.Classes.{first, head_line, head_text, is_table}
+use Rattle.ir_words.specs.Lexemes.{Lexeme, lexemes}
+use Rattle.ir_rules.specs.Reading.{IsFirstBad}
+use Rattle.ir_read.specs.Entities.{modules}
+use Rattle.ir_names.specs.declared.entity.Entity.{Entity}
+
+-- the line of the last token, or 1 where there is none
+abbrev pub last_line : List Lexeme → ℕ
+last_line ts = fold (λ (line : ℕ) (t : Lexeme). t.line) 1 ts
+
+-- The refusal for the first of these tokens, a word that is left out or another one; where none is
+-- left, for the end of the text, on a last line.
+abbrev pub refused : ℕ → List Lexeme → Refusal
+refused line ts =
+    if is_table (first ts) then Unsupported (head_line ts) (head_text ts)
+    else Form (if length ts == 0 then line else head_line ts)
+
+-- the refusal for the first bad token, at a place among all tokens
+abbrev pub refused_at : List Lexeme → ℕ → Refusal
+refused_at ts at = refused (last_line ts) (drop at ts)
+
+-- what is answered is what is read, unless memory ran out; how many tokens are left tells the first bad one
+abbrev pub Settles : List Lexeme → Result (List Entity) ℕ → Result (List Entity) Refusal → Type 0
+Settles ts read (Ok found) = read ≡ Ok found
+Settles ts read (Err e) = (e ≡ NoMemory) ⊎ ((left : ℕ) × (read ≡ Err left) × (e ≡ refused_at ts (length ts - left)))
+
+-- a text that is a module of these items
+abbrev pub IsModule : List ℕ → List Entity → Type 0
+IsModule bytes found = (tokens : List Token) × (tokens_of bytes ≡ Ok tokens) × modules.text (lexemes bytes tokens) found
+
+-- these items are found, unless memory ran out
+abbrev pub Finds : List Entity → Result (List Entity) Refusal → Type 0
+Finds wanted (Ok found) = found ≡ wanted
+Finds wanted (Err e) = e ≡ NoMemory
+
+-- a text of which some place begins no token, on this line
+abbrev pub IsLexRefusal : List ℕ → Refusal → Type 0
+IsLexRefusal bytes e = (line : ℕ) × (tokens_of bytes ≡ Err line) × (e ≡ Lex line)
+
+-- a text of tokens that are no module, up to the first bad one
+abbrev pub IsTokenRefusal : List ℕ → Refusal → Type 0
+IsTokenRefusal bytes e =
+    (tokens : List Token) × (at : ℕ) × (tokens_of bytes ≡ Ok tokens) × IsFirstBad modules (lexemes bytes tokens) at × (e ≡ refused_at (lexemes bytes tokens) at)
+
+-- why a text is refused
+abbrev pub IsRefusal : List ℕ → Refusal → Type 0
+IsRefusal bytes e = (e ≡ NoMemory) ⊎ (IsLexRefusal bytes e ⊎ IsTokenRefusal bytes e)

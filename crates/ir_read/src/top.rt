@@ -1,0 +1,129 @@
+//! The items at the top of a module (LangRef, "Module Structure").
+ghost use Rattle.std.specs.Prelude.{◌≡◌, Some, [], ◌∷◌, ◌++◌, filter_map, IfErr, OnOk};
+ghost use Rattle.ir_rules.specs.declared.end.End.TheVariants.{NoMemory};
+ghost use Rattle.ir_rules.specs.Reading.{Gives};
+ghost use Rattle.ir_rules.specs.Rules.{has};
+ghost use Rattle.ir_read.specs.Entities.{entities, entity_starts, kept_entities, modules, nothing_kept, type_defs};
+
+use crate::dropped::skip_dropped;
+use crate::functions::{read_declaration, read_definition};
+use crate::variables::read_global_entity;
+use ir_body::{read_local_use, read_struct};
+use ir_names::Entity;
+use ir_rules::{End, word};
+use ir_syntax::{NameUse, TypeDef};
+use ir_words::{Class, Rest};
+use std::alloc::Global;
+
+/// Reads the definition of a type's name.
+#[tactic(auto, unfolding(crate::specs::Entities::type_def_forms))]
+fn read_type_def<'t>(alloc: Global, rest: Rest<'t>) -> Result<(Entity, Rest<'t>), End>
+    ensures { Gives (λ x. (Some x.0, x.1)) result (type_defs.read rest.entry) }
+{
+    let (place, rest) = read_local_use(alloc, rest)?;
+    let rest = word(rest, Class::Equal)?;
+    let rest = word(rest, Class::TypeWord)?;
+    let (body, rest) = read_struct(alloc, rest, 63)?;
+    let NameUse { line, name } = place;
+    Ok((Entity::Type(TypeDef { line, name, body }), rest))
+}
+
+/// Reads an item that is kept.
+fn read_kept<'t>(alloc: Global, rest: Rest<'t>) -> Result<(Option<Entity>, Rest<'t>), End>
+    ensures { Gives (λ x. x) result (kept_entities.read rest.entry) }
+{
+    match rest.first() {
+        Class::Local => {
+            let (entity, rest) = read_type_def(alloc, rest)?;
+            Ok((Some(entity), rest))
+        }
+        Class::Declare => {
+            let (entity, rest) = read_declaration(alloc, rest)?;
+            Ok((Some(entity), rest))
+        }
+        Class::Define => {
+            let (entity, rest) = read_definition(alloc, rest)?;
+            Ok((Some(entity), rest))
+        }
+        _ => read_global_entity(alloc, rest),
+    }
+}
+
+/// Reads an item of which nothing is kept.
+fn read_dropped<'t>(alloc: Global, rest: Rest<'t>) -> Result<(Option<Entity>, Rest<'t>), End>
+    ensures { Gives (λ x. x) result (nothing_kept.read rest.entry) }
+{
+    let rest = skip_dropped(alloc, rest)?;
+    Ok((None, rest))
+}
+
+/// Whether a token of a class begins an item of which nothing is kept.
+fn begins_dropped(class: Class) -> bool
+    ensures { result ≡ has nothing_kept.starts class }
+{
+    matches!(
+        class,
+        Class::SourceFilename | Class::Target | Class::Attributes | Class::Meta
+    )
+}
+
+/// Reads an item; of some nothing is kept.
+#[tactic(auto, unfolding(crate::specs::Entities::entity_forms))]
+fn read_entity<'t>(alloc: Global, rest: Rest<'t>) -> Result<(Option<Entity>, Rest<'t>), End>
+    ensures { Gives (λ x. x) result (entities.read rest.entry) }
+{
+    if begins_dropped(rest.first()) {
+        return read_dropped(alloc, rest);
+    }
+    read_kept(alloc, rest)
+}
+
+/// Whether a token of a class begins an item.
+fn begins_entity(class: Class) -> bool
+    ensures { result ≡ has entity_starts class }
+{
+    matches!(
+        class,
+        Class::SourceFilename
+            | Class::Target
+            | Class::Attributes
+            | Class::Meta
+            | Class::Local
+            | Class::Declare
+            | Class::Define
+            | Class::Global
+            | Class::MetadataIntrinsic
+            | Class::DroppedIntrinsic
+            | Class::Intrinsic
+    )
+}
+
+/// Puts an item to the others, if it is kept.
+fn keep(list: &mut Vec<Entity>, found: Option<Entity>) -> Result<(), End>
+    ensures memory { IfErr result (λ e. e ≡ NoMemory) }
+    ensures kept { OnOk result (list.new.items ≡ list.old.items ++ filter_map (λ e. e) (found ∷ [])) }
+{
+    if let Some(entity) = found {
+        list.push(entity)?;
+    }
+    Ok(())
+}
+
+/// Reads the items of a module, as long as one begins.
+///
+/// # Errors
+///
+/// `Bad` at the first token that can't stand there, `NoMemory` if memory runs out.
+#[tactic(auto, unfolding(crate::specs::Entities::module_forms))]
+pub(crate) fn read_items<'t>(alloc: Global, rest: Rest<'t>) -> Result<(Vec<Entity>, Rest<'t>), End>
+    ensures { Gives (λ x. (x.0.items, x.1)) result (modules.read rest.entry) }
+{
+    let mut rest = rest;
+    let mut list = Vec::new(alloc);
+    while begins_entity(rest.first()) {
+        let (found, after) = read_entity(alloc, rest)?;
+        keep(&mut list, found)?;
+        rest = after;
+    }
+    Ok((list, rest))
+}
