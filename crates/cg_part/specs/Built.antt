@@ -1,6 +1,5 @@
 -- The functions that are built today.
-use Rattle.std.specs.Prelude.{◌≡◌, ◌≤◌, ◌&&◌, ◌||◌, ◌==◌, ◌⊎◌, ℕ, Bool, false, Option, Some, None, IsSome, List, [], ◌∷◌, length, All, IsTrue}
-use Rattle.std.specs.List.{list_all}
+use Rattle.std.specs.Prelude.{◌≡◌, ◌≤◌, ◌&&◌, ◌⊎◌, ℕ, Bool, not, Option, Some, None, IsSome, List, [], ◌∷◌, length, All, IsTrue}
 use Rattle.ir_syntax.specs.Literals.{literal_value}
 use Rattle.ir_syntax.specs.Names.{name_bytes}
 use Rattle.ir_syntax.specs.Types.{TextTree, int}
@@ -14,22 +13,15 @@ use Rattle.ir_syntax.specs.declared.function.Param.{Param}
 use Rattle.ir_syntax.specs.declared.linkage.Linkage.TheVariants.{External}
 use Rattle.ir_syntax.specs.declared.linkage.Visibility.TheVariants.{Default}
 use Rattle.ir_syntax.specs.declared.module.Module.{Module}
+use Rattle.ir_check.specs.Reserved.{is_reserved}
 use Rattle.rv_isa.specs.Encoding.{IsSigned12}
-use Rattle.rv_isa.specs.Symbol.{is_digit, is_letter}
+use Rattle.rv_isa.specs.Symbol.{is_bare}
 use Rattle.cg_part.specs.Code.{place_of}
+use Rattle.cg_part.specs.Definitions.{defined_functions}
 
--- a letter, a digit or `_`
-abbrev pub is_name_byte : ℕ → Bool
-is_name_byte b = is_letter b || is_digit b || b == 95
-
--- a byte that a name may begin with: a letter or `_`
-abbrev pub starts_name : ℕ → Bool
-starts_name b = is_letter b || b == 95
-
--- a letter or `_`, then letters, digits and `_`
-abbrev pub is_name : List ℕ → Bool
-is_name [] = false
-is_name (b ∷ bytes) = starts_name b && list_all is_name_byte bytes
+-- a name that the assembly writes without quotes, and that a definition may have
+abbrev pub is_built_name : List ℕ → Bool
+is_built_name name = is_bare name && not (is_reserved name)
 
 -- one of the parameters, or a number that one instruction can load
 abbrev pub IsBuiltOperand : List Param → Operand → Type 0
@@ -71,21 +63,20 @@ IsTypedBody result (Some []) = ⊥
 IsTypedBody result (Some (block ∷ [])) = GivesType result block.term
 IsTypedBody result (Some (block ∷ next ∷ more)) = ⊥
 
--- a definition that every part of the program sees, whose name needs no quotes, whose arguments have registers,
--- and that returns at once a value of its result type
+-- a definition that every part of the program sees, whose name needs no quotes, whose arguments have registers and
+-- the type of its result, and that returns at once a value of this type
 pub record IsBuiltFunction (f : Function) : Type 0 where
-  pub name : IsTrue (is_name (name_bytes f.name))
+  pub name : IsTrue (is_built_name (name_bytes f.name))
   pub linkage : f.linkage ≡ External
   pub visibility : f.visibility ≡ Default
   pub result : IsBuiltType f.result
-  pub params : All (λ p. IsBuiltType p.ty) f.params
+  pub params : All (λ p. p.ty ≡ f.result) f.params
   pub arguments : length f.params ≤ 8
   pub body : IsBuiltBody f.params f.blocks
   pub typed : IsTypedBody f.result f.blocks
 
--- a module of such functions alone
+-- a module whose definitions are such functions; its types and declarations have no text
 pub record IsBuilt (m : Module) : Type 0 where
-  pub types : m.types ≡ []
   pub globals : m.globals ≡ []
-  pub functions : All IsBuiltFunction m.functions
+  pub functions : All IsBuiltFunction (defined_functions m)
   pub aliases : m.aliases ≡ []

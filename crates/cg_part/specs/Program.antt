@@ -19,6 +19,7 @@ use Rattle.rv_isa.specs.declared.inst.Line.TheVariants.{Plain}
 use Rattle.rv_isa.specs.declared.inst.Op.TheVariants.{Lui, Jalr, Ecall}
 use Rattle.cg_part.specs.Built.{IsBuilt}
 use Rattle.cg_part.specs.Code.{addi, return, function_code}
+use Rattle.cg_part.specs.Definitions.{defined_functions}
 
 -- a name that neither the start of a program nor the functions of its host have
 pub record IsFree (name : List ℕ) : Type 0 where
@@ -28,12 +29,12 @@ pub record IsFree (name : List ℕ) : Type 0 where
 abbrev pub function_name : Function → List ℕ
 function_name f = name_bytes f.name
 
--- a module of the built set, of at most 4,096 functions, whose names are free and differ
+-- a module of the built set that defines at most 4,096 functions, whose names are free and differ
 pub record IsProgram (m : Module) : Type 0 where
   pub built : IsBuilt m
-  pub free : All (λ f. IsFree (function_name f)) m.functions
-  pub differ : IsDistinct bytes_eq (map function_name m.functions)
-  pub few : length m.functions ≤ 4096
+  pub free : All (λ f. IsFree (function_name f)) (defined_functions m)
+  pub differ : IsDistinct bytes_eq (map function_name (defined_functions m))
+  pub few : length (defined_functions m) ≤ 4096
 
 -- what the lines before a function's code say
 abbrev pub head_forms : List ℕ → List Form
@@ -65,7 +66,7 @@ part_symbols before (f ∷ functions) =
 -- the object of a module: its code, a global symbol for each function, and nothing needed from elsewhere
 abbrev pub part_object : Module → Object
 part_object m =
-    record { words = map (λ i. Plain i) (part_code m.functions); symbols = part_symbols 0 m.functions; needs = [] }
+    record { words = map (λ i. Plain i) (part_code (defined_functions m)); symbols = part_symbols 0 (defined_functions m); needs = [] }
 
 -- the objects of a program: the runtime, and that of its module
 abbrev pub program_objects : Module → List Object

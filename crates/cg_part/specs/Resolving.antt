@@ -1,12 +1,12 @@
 -- The symbols that a text defines, shows to others and needs, read off its lines, and when texts resolve.
 -- A symbol is given as it is spelled.
-use Rattle.std.specs.Prelude.{◌≡◌, ◌==◌, ◌&&◌, ℕ, Bool, true, false, not, nat_eq, bytes_eq, is_some, List, [], ◌∷◌, ◌⊎◌, drop, length, codes, map, flat_map, count_by, Contains, if◌then◌else◌}
-use Rattle.std.specs.List.{starts_with, list_any, filter}
-use Rattle.ir_syntax.specs.declared.function.Function.{Function}
+use Rattle.std.specs.Prelude.{◌≡◌, ◌==◌, ◌&&◌, ℕ, Bool, true, false, not, nat_eq, bytes_eq, List, [], ◌∷◌, ◌⊎◌, drop, length, codes, map, flat_map, count_by, Contains, if◌then◌else◌}
+use Rattle.std.specs.List.{starts_with, list_any}
 use Rattle.ir_syntax.specs.declared.module.Module.{Module}
 use Rattle.rv_isa.specs.Lines.{pieces_of}
 use Rattle.rv_isa.specs.Symbol.{is_digit, is_symbol_byte}
 use Rattle.asm_read.specs.Forms.{is_number}
+use Rattle.cg_part.specs.Definitions.{declared_functions, defined_functions}
 use Rattle.cg_part.specs.Text.{symbol_of}
 
 -- the front of bytes that pass a test
@@ -80,15 +80,11 @@ globals_of text = flat_map shown_in (pieces_of text)
 abbrev pub needs_of : List ℕ → List (List ℕ)
 needs_of text = flat_map needed_in (pieces_of text)
 
--- a function with a body is defined, one without is declared
-abbrev pub has_body : Function → Bool
-has_body f = is_some f.blocks
-
 abbrev pub defined_symbols : Module → List (List ℕ)
-defined_symbols m = map symbol_of (filter has_body m.functions)
+defined_symbols m = map symbol_of (defined_functions m)
 
 abbrev pub declared_symbols : Module → List (List ℕ)
-declared_symbols m = map symbol_of (filter (λ f. not (has_body f)) m.functions)
+declared_symbols m = map symbol_of (declared_functions m)
 
 -- in how many of the texts a symbol is, by the symbols of each
 abbrev pub texts_with : (List ℕ → List (List ℕ)) → List ℕ → List (List ℕ) → ℕ

@@ -7,6 +7,7 @@ use Rattle.rv_isa.specs.Lines.{ended, text_of_lines}
 use Rattle.rv_isa.specs.Symbol.{spelled}
 use Rattle.rv_isa.specs.Text.{spelled_line, instruction_line}
 use Rattle.cg_part.specs.Code.{function_code}
+use Rattle.cg_part.specs.Definitions.{defined_functions}
 
 -- a function's symbol as the assembly writes it
 abbrev pub symbol_of : Function → List ℕ
@@ -21,12 +22,13 @@ head_lines symbol =
 unfoldable pub function_lines : Function → List (List ℕ)
 function_lines f = head_lines (symbol_of f) ++ map instruction_line (function_code f)
 
--- a part's lines: its functions in the order of the module
+-- the lines of functions in their order
 abbrev pub part_lines : List Function → List (List ℕ)
 part_lines functions = flat_map function_lines functions
 
+-- the text of a part: the functions that the module defines, in its order
 unfoldable pub part_text : Module → List ℕ
-part_text m = text_of_lines (part_lines m.functions)
+part_text m = text_of_lines (part_lines (defined_functions m))
 
 -- what is written: the line that begins the part, and its text
 abbrev pub output_of : Module → List ℕ

@@ -1,0 +1,4 @@
+pub mod Repeated
+pub mod Reserved
+pub mod Signatures
+pub mod Sized

@@ -1,0 +1,68 @@
+-- Names that are defined twice (LangRef, "Identifiers").
+use Rattle.std.specs.Prelude.{ℕ, Bool, Option, None, Some, List, [], ◌∷◌, ◌++◌, map, if◌then◌else◌}
+use Rattle.std.specs.List.{flat_map, list_any}
+use Rattle.ir_syntax.specs.Names.{same_name}
+use Rattle.ir_syntax.specs.declared.block.Block.{Block}
+use Rattle.ir_syntax.specs.declared.function.Function.{Function}
+use Rattle.ir_syntax.specs.declared.function.Param.{Param}
+use Rattle.ir_syntax.specs.declared.instr.Instr.{Instr}
+use Rattle.ir_syntax.specs.declared.module.Module.{Module}
+use Rattle.ir_syntax.specs.declared.name.Name.{Name}
+use Rattle.ir_syntax.specs.declared.name.NameUse.{NameUse}
+use Rattle.ir_syntax.specs.declared.phi.Phi.{Phi}
+use Rattle.ir_syntax.specs.declared.type_def.TypeDef.{TypeDef}
+
+-- a name with the line of the first token of what it is defined for
+abbrev pub defined_at : ℕ → Name → NameUse
+defined_at line name = record { line = line; name = name }
+
+abbrev pub type_name : TypeDef → NameUse
+type_name t = defined_at t.line t.name
+
+abbrev pub function_name_at : Function → NameUse
+function_name_at f = defined_at f.line f.name
+
+abbrev pub param_name : Param → NameUse
+param_name p = defined_at p.line p.name
+
+abbrev pub phi_name : Phi → NameUse
+phi_name p = defined_at p.line p.result
+
+abbrev pub result_names : ℕ → Option Name → List NameUse
+result_names line None = []
+result_names line (Some name) = defined_at line name ∷ []
+
+abbrev pub instr_names : Instr → List NameUse
+instr_names i = result_names i.line i.result
+
+-- a block's label, and the results of its phis and instructions
+abbrev pub block_names : Block → List NameUse
+block_names b = defined_at b.line b.label ∷ (map phi_name b.phis ++ flat_map instr_names b.instrs)
+
+abbrev pub body_names : Option (List Block) → List NameUse
+body_names None = []
+body_names (Some blocks) = flat_map block_names blocks
+
+-- the local names of a function: labels and values share one space
+abbrev pub local_names : Function → List NameUse
+local_names f = map param_name f.params ++ body_names f.blocks
+
+-- whether a name is among these
+abbrev pub is_among : List NameUse → Name → Bool
+is_among names name = list_any (λ n. same_name name n.name) names
+
+abbrev pub line_if : Bool → ℕ → List ℕ
+line_if fault line = if fault then line ∷ [] else []
+
+-- the lines of these names that are among those before them
+abbrev pub repeats_after : List NameUse → List NameUse → List ℕ
+repeats_after before [] = []
+repeats_after before (n ∷ names) = line_if (is_among before n.name) n.line ++ repeats_after (before ++ n ∷ []) names
+
+abbrev pub repeats : List NameUse → List ℕ
+repeats names = repeats_after [] names
+
+-- the lines at which a type, a function, or a local name of one function is defined again
+abbrev pub repeated_lines : Module → List ℕ
+repeated_lines m =
+    repeats (map type_name m.types) ++ (repeats (map function_name_at m.functions) ++ flat_map (λ f. repeats (local_names f)) m.functions)

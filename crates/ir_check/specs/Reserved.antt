@@ -1,0 +1,20 @@
+-- Names that no item of a module may have.
+use Rattle.std.specs.Prelude.{ℕ, Bool, false, ◌&&◌, ◌||◌, nat_eq, List, [], ◌∷◌, bytes_eq, codes, drop}
+use Rattle.std.specs.List.{starts_with}
+use Rattle.rv_isa.specs.Symbol.{is_digit}
+
+abbrev pub begins_with : List ℕ → List ℕ → Bool
+begins_with front name = starts_with nat_eq name front
+
+abbrev pub begins_digit : List ℕ → Bool
+begins_digit [] = false
+begins_digit (b ∷ bytes) = is_digit b
+
+-- the labels of the blocks in the assembly begin so: no function, variable or alias does, defined or declared
+abbrev pub is_label_name : List ℕ → Bool
+is_label_name name = begins_with (codes ".LBB") name && begins_digit (drop 4 name)
+
+-- the names of the start of a program, of the functions of its host and of intrinsics: nothing is defined by one
+abbrev pub is_reserved : List ℕ → Bool
+is_reserved name =
+    bytes_eq name (codes "_start") || begins_with (codes "__host_") name || begins_with (codes "llvm.") name || is_label_name name

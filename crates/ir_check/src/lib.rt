@@ -1,0 +1,13 @@
+//! Checks of a module of textual LLVM IR (LLVM Language Reference Manual): names that are defined twice or that
+//! nothing may have, types that have no size, and types of declared functions.
+#![tactic(auto)]
+
+mod repeated;
+mod reserved;
+mod signatures;
+mod sized;
+
+pub use repeated::repeated_lines;
+pub use reserved::{is_label_name, is_reserved};
+pub use signatures::is_declarable;
+pub use sized::unsized_lines;

@@ -1,0 +1,39 @@
+//! Names that no item of a module may have.
+ghost use Rattle.std.specs.Prelude.{◌≡◌};
+ghost use Rattle.ir_check.specs.Reserved.{begins_digit, begins_with, is_label_name, is_reserved};
+
+fn begins_with(front: &[u8], name: &[u8]) -> bool
+    ensures { result ≡ begins_with front.now name.now }
+{
+    name.starts_with(front)
+}
+
+fn begins_digit(bytes: &[u8]) -> bool
+    ensures { result ≡ begins_digit bytes.now }
+{
+    match bytes {
+        [first, ..] => first.is_ascii_digit(),
+        [] => false,
+    }
+}
+
+/// Whether a name begins as the labels of blocks do in the assembly, with `.LBB` and a digit: no function, variable
+/// or alias may have it, defined or declared.
+pub fn is_label_name(name: &[u8]) -> bool
+    ensures { result ≡ is_label_name name.now }
+{
+    match name {
+        [b'.', b'L', b'B', b'B', rest @ ..] => begins_digit(rest),
+        _ => false,
+    }
+}
+
+/// Whether nothing may be defined by a name: `_start`, one that begins with `__host_` or `llvm.`, or a label's.
+pub fn is_reserved(name: &[u8]) -> bool
+    ensures { result ≡ is_reserved name.now }
+{
+    (name == b"_start".as_slice())
+        | begins_with(b"__host_", name)
+        | begins_with(b"llvm.", name)
+        | is_label_name(name)
+}
