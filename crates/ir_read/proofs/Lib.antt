@@ -6,5 +6,6 @@ pub mod HeadLaws
 pub mod InitialiserLaws
 pub mod Kept
 pub mod Naming
+pub mod OneAnswer
 pub mod Settled
 pub mod VariableLaws

@@ -12,7 +12,7 @@ use Rattle.ir_syntax.specs.declared.refusal.Refusal.{Refusal}
 use Rattle.ir_read.specs.Modules.{IsNamed, IsOnly, Names}
 
 -- no line is the least of none
-none_least : (line : ℕ) (lines : List ℕ) → lines ≡ [] → least lines ≡ Some line → ⊥
+pub none_least : (line : ℕ) (lines : List ℕ) → lines ≡ [] → least lines ≡ Some line → ⊥
 none_least line lines none is = clash (ap least (sym none) ∙ is)
   where
     clash : least [] ≡ Some line → ⊥

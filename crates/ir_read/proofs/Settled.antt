@@ -14,16 +14,16 @@ use Rattle.ir_read.specs.Refusals.{Finds, IsModule, IsRefusal, Settles}
 use Rattle.ir_names.specs.declared.entity.Entity.{Entity}
 use Rattle.ir_read.proofs.EntityLaws.{modules_law}
 
-same_tokens : (read : Result (List Token) ℕ) (a b : List Token) → read ≡ Ok a → read ≡ Ok b → a ≡ b
+pub same_tokens : (read : Result (List Token) ℕ) (a b : List Token) → read ≡ Ok a → read ≡ Ok b → a ≡ b
 same_tokens read a b e f = cc
 
-no_tokens : (read : Result (List Token) ℕ) (a : List Token) (line : ℕ) → read ≡ Ok a → read ≡ Err line → ⊥
+pub no_tokens : (read : Result (List Token) ℕ) (a : List Token) (line : ℕ) → read ≡ Ok a → read ≡ Err line → ⊥
 no_tokens read a line e f = absurd (cc)
 
 clash : (read : Result (List Entity) ℕ) (a : List Entity) (left : ℕ) → read ≡ Ok a → read ≡ Err left → ⊥
 clash read a left e f = absurd (cc)
 
-same_found : (read : Result (List Entity) ℕ) (a b : List Entity) → read ≡ Ok a → read ≡ Ok b → a ≡ b
+pub same_found : (read : Result (List Entity) ℕ) (a b : List Entity) → read ≡ Ok a → read ≡ Ok b → a ≡ b
 same_found read a b e f = cc
 
 module _ (bytes : List ℕ) (tokens : List Token) (is : tokens_of bytes ≡ Ok tokens) where

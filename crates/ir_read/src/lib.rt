@@ -18,5 +18,5 @@ mod top;
 mod variables;
 
 pub use ir_names::{Entities, Entity};
-pub use module::read_module;
+pub use module::{read_module, texts_have_one_answer};
 pub use reading::read_entities;

@@ -1,7 +1,9 @@
 //! A text as a module.
-ghost use Rattle.std.specs.Prelude.{◌≤◌, IfErr, IfOk, length};
+ghost use Rattle.std.specs.Prelude.{◌≡◌, ◌≢◌, ◌≤◌, ℕ, IfErr, IfOk, List, length};
 ghost use Rattle.ir_read.specs.Modules.{IsFirstRefusal, IsOnly, Names, Reads};
 ghost use Rattle.ir_syntax.specs.declared.module.Module.{Module};
+ghost use Rattle.ir_syntax.specs.declared.refusal.Refusal.{Refusal};
+ghost use Rattle.ir_syntax.specs.declared.refusal.Refusal.TheVariants.{NoMemory};
 
 use crate::reading::read_entities;
 use ir_names::{Entities, NamesEnd, resolve};
@@ -38,3 +40,10 @@ pub fn read_module(alloc: Global, bytes: &[u8]) -> Result<Module, Refusal>
         Err(refusal) => Err(refusal),
     }
 }
+
+/// A text is that of one module at most, and then it is not refused.
+pub fn texts_have_one_answer()
+    ensures unique { (bytes : List ℕ) (m k : Module) → Reads bytes m → Reads bytes k → m ≡ k }
+    ensures excludes { (bytes : List ℕ) (m : Module) (e : Refusal) → Reads bytes m → IsFirstRefusal bytes e →
+        e ≢ NoMemory → ⊥ }
+{}

@@ -12,6 +12,9 @@ use Rattle.cg_part.specs.Program.{IsProgram}
 use Rattle.cg_part.proofs.AssemblingLemmas.{part_assembles}
 use Rattle.cg_part.proofs.LinkingNames.{part_differs, part_resolves}
 use Rattle.cg_part.proofs.ResolvingLemmas.{text_resolves}
+use Rattle.cg_part.proofs.UnbuiltLemmas.{built_program}
+use Rattle.cg_part.specs.Unbuilt.{first_unbuilt}
+use Rattle.ir_read.proofs.OneAnswer.{reads_unique}
 use Rattle.ir_syntax.specs.declared.function.Function.{Function}
 use Rattle.ir_syntax.specs.declared.module.Module.{Module}
 use Rattle.ir_syntax.specs.declared.refusal.Refusal.{Refusal}
@@ -24,8 +27,8 @@ use Rattle.llc_words.specs.declared.types.Mode.{Mode}
 use Rattle.llc_words.specs.declared.types.Mode.TheVariants as modes
 use Rattle.llc_top.specs.declared.status.Status.{Status}
 use Rattle.llc_top.specs.declared.status.Status.TheVariants as statuses
-use Rattle.llc_top.proofs.Programs.{main_is, reads_program}
-use Rattle.llc_top.proofs.Refusals.{excludes, unique}
+use Rattle.llc_top.proofs.Programs.{main_is}
+use Rattle.llc_top.proofs.Unread.{unread_apart}
 
 -- what was taken of a source that tells its bytes is no more than these
 taken-length : (bytes taken : List ℕ) (left' : Option (List ℕ)) → Consumes (Some bytes) left' taken → length taken ≤ length bytes
@@ -42,10 +45,10 @@ given left left' bytes all told gave = GivesAll-told bytes left' all (subst (λ 
 
 -- two modules of one text are one, and so have the same main
 same_main : (bytes : List ℕ) (m k : Module) → IsAccepted bytes m → IsAccepted bytes k → has_main m ≡ has_main k
-same_main bytes m k one other = ap has_main (unique bytes m k one.reads other.reads)
+same_main bytes m k one other = ap has_main (reads_unique bytes m k one.reads other.reads)
 
 same_defined : (bytes : List ℕ) (m k : Module) → IsAccepted bytes m → IsAccepted bytes k → defines_main m ≡ defines_main k
-same_defined bytes m k one other = ap defines_main (unique bytes m k one.reads other.reads)
+same_defined bytes m k one other = ap defines_main (reads_unique bytes m k one.reads other.reads)
 
 or_later : (a b : Bool) → b ≡ true → (a || b) ≡ true
 or_later true b later = refl
@@ -69,24 +72,30 @@ serves_run modes.Run m is serves = serves
 accepted_apart : (mode : Mode) (bytes : List ℕ) (m : Module) (refusal : Refusal) → IsAccepted bytes m → Serves mode m →
     IsFirstRefusal mode bytes refusal → ⊥
 accepted_apart mode bytes m (refusals.TooLong taken) accepted serves long = absurd (omega (arith, accepted.short, long.0))
-accepted_apart mode bytes m (refusals.NotYet line) accepted serves refused = excludes bytes m line accepted.reads refused.1
+accepted_apart mode bytes m (refusals.Lex line) accepted serves refused =
+    unread_apart bytes m (refusals.Lex line) accepted.reads refused.1 (λ is. cc)
+accepted_apart mode bytes m (refusals.Unsupported line word) accepted serves refused =
+    unread_apart bytes m (refusals.Unsupported line word) accepted.reads refused.1 (λ is. cc)
+accepted_apart mode bytes m (refusals.Form line) accepted serves refused =
+    unread_apart bytes m (refusals.Form line) accepted.reads refused.1 (λ is. cc)
+accepted_apart mode bytes m (refusals.Name line) accepted serves refused =
+    unread_apart bytes m (refusals.Name line) accepted.reads refused.1 (λ is. cc)
+accepted_apart mode bytes m (refusals.NotYet line) accepted serves (other, short, read, is) =
+    let none : first_unbuilt other ≡ None = ap first_unbuilt (reads_unique bytes other m read accepted.reads) ∙ accepted.built in
+    let both : Some line ≡ None = sym is ∙ none in
+    cc
 accepted_apart mode bytes m refusals.NoMain accepted serves (other, is, read, none) =
     both_ways (defines_main m) (same_defined bytes m other accepted read ∙ none) (main_defined m.functions (serves_run mode m is serves))
 accepted_apart mode bytes m refusals.BadMain accepted serves (other, is, read, defined, none) =
     both_ways (has_main m) (same_main bytes m other accepted read ∙ none) (serves_run mode m is serves)
-accepted_apart mode bytes m other accepted serves never = never
+accepted_apart mode bytes m refusals.NoMemory accepted serves never = never
 
 -- what a source that tells its bytes gave and is refused, its text is refused with
 refused_first : (mode : Mode) (left left' : Option (List ℕ)) (bytes : List ℕ) (refusal : Refusal) → left ≡ Some bytes →
     TakesRefused mode left left' refusal → IsFirstRefusal mode bytes refusal
 refused_first mode left left' bytes (refusals.TooLong taken) told (is, takes) = (omega (arith, too_long left left' bytes taken told takes, is), is)
-refused_first mode left left' bytes (refusals.NotYet line) told (all, gave, first) =
-    subst (λ b. IsFirstRefusal mode b (refusals.NotYet line)) (given left left' bytes all told gave) first
-refused_first mode left left' bytes refusals.NoMain told (all, gave, first) =
-    subst (λ b. IsFirstRefusal mode b refusals.NoMain) (given left left' bytes all told gave) first
-refused_first mode left left' bytes refusals.BadMain told (all, gave, first) =
-    subst (λ b. IsFirstRefusal mode b refusals.BadMain) (given left left' bytes all told gave) first
-refused_first mode left left' bytes other told never = never
+refused_first mode left left' bytes refusal told (all, gave, first) =
+    subst (λ b. IsFirstRefusal mode b refusal) (given left left' bytes all told gave) first
 
 taken_accepted : (left left' : Option (List ℕ)) (bytes : List ℕ) (m : Module) → left ≡ Some bytes → TakesModule left left' m → IsAccepted bytes m
 taken_accepted left left' bytes m told takes = subst (λ b. IsAccepted b m) (given left left' bytes takes.bytes told takes.gave) takes.accepted
@@ -140,7 +149,7 @@ module _ (words : List (List ℕ)) (left left' : Option (List ℕ)) (faults faul
     compiled_by read_failed compiling reason is results = absurd (cc)
     compiled_by (refuses refusal) compiling reason is results = absurd (cc)
     compiled_by (compiles m) compiling (other, is_other, asks, takes) is results =
-        let program : IsProgram m = reads_program takes.bytes m takes.accepted.reads in
+        let program : IsProgram m = built_program m takes.accepted.built in
         record {
           compiled = m;
           takes = takes;
@@ -159,7 +168,7 @@ module _ (words : List (List ℕ)) (left left' : Option (List ℕ)) (faults faul
         Appends err err' (err_due (runs command m)) → Ran command left left' out out' err err'
     shown_by m takes has results errors =
         let main = main_is m has in
-        let program : IsProgram m = reads_program takes.bytes m takes.accepted.reads in
+        let program : IsProgram m = built_program m takes.accepted.built in
         record {
           compiled = m;
           takes = takes;

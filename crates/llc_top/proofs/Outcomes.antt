@@ -93,10 +93,7 @@ pub whole_reason : (words : List (List ℕ)) (command : Command) (left left' : O
 whole_reason words command left left' faults faults' bytes is gave short words_refused never = absurd never
 whole_reason words command left left' faults faults' bytes is gave short read_failed never = absurd never
 whole_reason words command left left' faults faults' bytes is gave short (refuses (refusals.TooLong taken)) long = absurd (omega (arith, short, long.0))
-whole_reason words command left left' faults faults' bytes is gave short (refuses refusals.NoMain) reason = (command, is, (bytes, gave, reason))
-whole_reason words command left left' faults faults' bytes is gave short (refuses refusals.BadMain) reason = (command, is, (bytes, gave, reason))
-whole_reason words command left left' faults faults' bytes is gave short (refuses (refusals.NotYet line)) reason = (command, is, (bytes, gave, reason))
-whole_reason words command left left' faults faults' bytes is gave short (refuses other) never = absurd never
+whole_reason words command left left' faults faults' bytes is gave short (refuses refusal) reason = (command, is, (bytes, gave, reason))
 whole_reason words command left left' faults faults' bytes is gave short (compiles m) reason =
     (command, is, reason.0, record { bytes = bytes; gave = gave; accepted = reason.1 })
 whole_reason words command left left' faults faults' bytes is gave short (runs asked m) reason =

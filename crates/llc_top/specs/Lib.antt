@@ -1,11 +1,6 @@
-pub mod Definition
 pub mod Exact
 pub mod Main
 pub mod Numbers
 pub mod Outcome
 pub mod Partial
-pub mod Reading
-pub mod Reads
 pub mod Stops
-pub mod Tree
-pub mod Views

@@ -6,6 +6,9 @@ use Rattle.cg_io.specs.Faults.{Rose}
 use Rattle.cg_io.specs.Told.{GivesAll, TakesExactly, AppendsPrefix}
 use Rattle.cg_part.specs.Program.{program_bytes}
 use Rattle.cg_part.specs.Text.{output_of}
+use Rattle.cg_part.specs.Unbuilt.{first_unbuilt}
+use Rattle.ir_read.specs.Modules as reading
+use Rattle.ir_read.specs.Modules.{Reads}
 use Rattle.ir_syntax.specs.declared.module.Module.{Module}
 use Rattle.ir_syntax.specs.declared.refusal.Refusal.{Refusal}
 use Rattle.ir_syntax.specs.declared.refusal.Refusal.TheVariants as refusals
@@ -15,7 +18,6 @@ use Rattle.llc_words.specs.declared.types.Mode.TheVariants as modes
 use Rattle.rv_isa.specs.Lines.{ended}
 use Rattle.rv_mach.specs.Run.{Shown, machine_run}
 use Rattle.llc_top.specs.Main.{defines_main, has_main}
-use Rattle.llc_top.specs.Reads.{Reads, IsRefusedLine}
 use Rattle.llc_top.specs.Stops.{stop_text}
 use Rattle.llc_top.specs.declared.status.Status.{Status}
 use Rattle.llc_top.specs.declared.status.Status.TheVariants as statuses
@@ -71,21 +73,31 @@ err_due (refuses refusal) = ended (refusal_text refusal)
 err_due (compiles m) = []
 err_due (runs command m) = ended (stop_text (program_run command m).stop)
 
--- a text that is not too long and reads as a module
+-- a text that is not too long, reads as a module, and of which all is built
 pub record IsAccepted (bytes : List ℕ) (m : Module) : Type 0 where
   pub short : length bytes ≤ text_limit
   pub reads : Reads bytes m
+  pub built : first_unbuilt m ≡ None
 
--- The first refusal of a text in a mode: it is too long; else a line of it is not built yet; else a run
--- has no `main`; else `main` has another type.
+-- a text that is not too long, and why it is not read
+abbrev pub IsUnread : List ℕ → Refusal → Type 0
+IsUnread bytes refusal = (length bytes ≤ text_limit) × reading.IsFirstRefusal bytes refusal
+
+-- The first refusal of a text in a mode: it is too long; else it is not read, for a token, for the first bad one, or
+-- for a name; else a line of it is not built yet; else a run has no `main`; else `main` has another type.
 abbrev pub IsFirstRefusal : Mode → List ℕ → Refusal → Type 0
 IsFirstRefusal mode bytes (refusals.TooLong taken) = (text_limit + 1 ≤ length bytes) × (taken ≡ text_limit + 1)
-IsFirstRefusal mode bytes (refusals.NotYet line) = (length bytes ≤ text_limit) × IsRefusedLine bytes line
+IsFirstRefusal mode bytes (refusals.Lex line) = IsUnread bytes (refusals.Lex line)
+IsFirstRefusal mode bytes (refusals.Unsupported line word) = IsUnread bytes (refusals.Unsupported line word)
+IsFirstRefusal mode bytes (refusals.Form line) = IsUnread bytes (refusals.Form line)
+IsFirstRefusal mode bytes (refusals.Name line) = IsUnread bytes (refusals.Name line)
+IsFirstRefusal mode bytes (refusals.NotYet line) =
+    (m : Module) × (length bytes ≤ text_limit) × Reads bytes m × (first_unbuilt m ≡ Some line)
 IsFirstRefusal mode bytes refusals.NoMain =
     (m : Module) × (mode ≡ modes.Run) × IsAccepted bytes m × (defines_main m ≡ false)
 IsFirstRefusal mode bytes refusals.BadMain =
     (m : Module) × (mode ≡ modes.Run) × IsAccepted bytes m × (defines_main m ≡ true) × (has_main m ≡ false)
-IsFirstRefusal mode bytes other = ⊥
+IsFirstRefusal mode bytes refusals.NoMemory = ⊥
 
 -- the whole text of the source is this module's
 pub record TakesModule (left left' : Option (List ℕ)) (m : Module) : Type 0 where
@@ -97,13 +109,7 @@ pub record TakesModule (left left' : Option (List ℕ)) (m : Module) : Type 0 wh
 -- any other text it gave whole.
 abbrev pub TakesRefused : Mode → Option (List ℕ) → Option (List ℕ) → Refusal → Type 0
 TakesRefused mode left left' (refusals.TooLong taken) = (taken ≡ text_limit + 1) × TakesExactly taken left left'
-TakesRefused mode left left' (refusals.NotYet line) =
-    (bytes : List ℕ) × GivesAll left left' bytes × IsFirstRefusal mode bytes (refusals.NotYet line)
-TakesRefused mode left left' refusals.NoMain =
-    (bytes : List ℕ) × GivesAll left left' bytes × IsFirstRefusal mode bytes refusals.NoMain
-TakesRefused mode left left' refusals.BadMain =
-    (bytes : List ℕ) × GivesAll left left' bytes × IsFirstRefusal mode bytes refusals.BadMain
-TakesRefused mode left left' other = ⊥
+TakesRefused mode left left' refusal = (bytes : List ℕ) × GivesAll left left' bytes × IsFirstRefusal mode bytes refusal
 
 -- why a run comes to this, by its words and by what its source had left, and how often it had failed, before
 -- and now

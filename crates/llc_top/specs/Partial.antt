@@ -46,6 +46,11 @@ ToldRefusal refusal statuses.Done err err' = ⊥
 ToldRefusal refusal statuses.Words err err' = ⊥
 ToldRefusal refusal statuses.ReadFault err err' = ⊥
 
+-- a refusal was told, or a first part of its line; nothing is told where memory ran out
+abbrev pub ToldUnread : Refusal → Status → Option (List ℕ) → Option (List ℕ) → Type 0
+ToldUnread refusals.NoMemory status err err' = (status ≡ statuses.NoMemory) × Appends err err' []
+ToldUnread refusal status err err' = ToldRefusal refusal status err err'
+
 -- why a module comes to this
 abbrev pub HasModuleReason : Command → Module → Outcome → Type 0
 HasModuleReason command m words_refused = ⊥

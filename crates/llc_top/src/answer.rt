@@ -1,7 +1,7 @@
 //! Answers that tell a line on the sink for errors.
 ghost use Rattle.std.specs.Prelude.{◌≡◌, ◌≢◌, ◌⊎◌};
 ghost use Rattle.cg_io.specs.Faults.{Rose};
-ghost use Rattle.llc_top.specs.Partial.{Told, ToldRefusal};
+ghost use Rattle.llc_top.specs.Partial.{Told, ToldRefusal, ToldUnread};
 
 use crate::status::Status;
 use crate::tell::tell_refusal;
@@ -30,5 +30,17 @@ pub fn answer_refusal<E: Sink>(err: &mut E, refusal: Refusal) -> Status
     match tell_refusal(err, refusal) {
         Ok(()) => Status::Refused,
         Err(_) => Status::WriteFault,
+    }
+}
+
+/// Tells why a text is not read, unless memory ran out.
+pub fn answer_unread<E: Sink>(err: &mut E, refusal: Refusal) -> Status
+    ensures told { ToldUnread refusal result (E.written err.old) (E.written err.new) }
+    ensures fault { result ≡ Status.WriteFault → Rose (E.faults err.old) (E.faults err.new) }
+    ensures kept { (result ≡ Status.WriteFault) ⊎ (E.faults err.new ≡ E.faults err.old) }
+{
+    match refusal {
+        Refusal::NoMemory => Status::NoMemory,
+        refusal => answer_refusal(err, refusal),
     }
 }

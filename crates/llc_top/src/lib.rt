@@ -4,7 +4,6 @@
 mod answer;
 mod compile;
 mod execute;
-mod reader;
 mod run;
 mod serve;
 mod start;

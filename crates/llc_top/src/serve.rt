@@ -5,13 +5,14 @@ ghost use Rattle.cg_part.specs.Program.{IsProgram};
 ghost use Rattle.llc_top.specs.Outcome.{Answers, text_limit};
 ghost use Rattle.llc_top.specs.Partial.{HasTextReason, HasModuleReason};
 
-use crate::answer::answer_refusal;
+use crate::answer::{answer_refusal, answer_unread};
 use crate::compile::write_output;
 use crate::execute::execute;
-use crate::reader::{ReadError, read_module};
 use crate::start::{defines_a_main, has_a_main};
 use crate::status::Status;
 use cg_io::Sink;
+use cg_part::unbuilt;
+use ir_read::read_module;
 use ir_syntax::{Module, Refusal};
 use llc_words::{Command, Mode};
 use std::alloc::Global;
@@ -34,10 +35,14 @@ pub fn serve_text<O: Sink, E: Sink>(
     ensures untouched { (result ≡ Status.Done) ⊎ (result ≡ Status.NoMemory) ⊎ (result ≡ Status.WriteFault) ⊎
         (out.new ≡ out.old) }
 {
-    match read_module(alloc, text) {
-        Ok(m) => serve_module(alloc, command, &m, out, err),
-        Err(ReadError::NotYet { line }) => answer_refusal(err, Refusal::NotYet { line }),
-        Err(ReadError::NoMemory) => Status::NoMemory,
+    let m = match read_module(alloc, text) {
+        Ok(m) => m,
+        Err(refusal) => return answer_unread(err, refusal),
+    };
+    match unbuilt(alloc, &m) {
+        Ok(None) => serve_module(alloc, command, &m, out, err),
+        Ok(Some(line)) => answer_refusal(err, Refusal::NotYet { line }),
+        Err(_) => Status::NoMemory,
     }
 }
 

@@ -1,5 +1,7 @@
 use super::*;
 use cg_io::{MemSink, MemSource};
+use itoa::Buffer;
+use std::alloc::{AllocError, Global};
 use std::test::Fail;
 
 const ARGUMENT: &str = "define i64 @a(i64 %x, i64 %y) {\n  ret i64 %y\n}\n";
@@ -76,37 +78,168 @@ fn the_empty_text_is_one_empty_part(rt: HostRuntime) -> Result<(), Fail> {
     Ok(())
 }
 
+/// Texts of a module whose function `a` returns its second argument.
+const SECOND_ARGUMENTS: [&str; 8] = [
+    ARGUMENT,
+    "define i64 @a(i64 noundef %x, i64 noundef %y) { ret i64 %y }",
+    "define i64 @a(i64 %x, i64 %y) {\r\n  ret i64 %y\r\n}\r\n",
+    "define i64 @a(i64 %0, i64) {\n  ret i64 %1\n}",
+    "define dso_local i64 @\"a\"(i64 %\"x y\", i64 %\"\\ff\") #0 {\nentry:\n  ret i64 %\"\\FF\", !dbg !0\n}\nattributes #0 = { nounwind }\n!0 = !{}\n",
+    "source_filename = \"a.c\"\ntarget triple = \"riscv64\"\n%s = type { %t, [4 x i8] }\n%t = type <{ i8, ptr }>\ndefine i64 @a(i64 %x, i64 %y) {\n  ret i64 %y\n}\n",
+    "declare void @b(ptr, i1 zeroext)\ndeclare void @__host_put(i32)\ndeclare i32 @__host_get()\ndefine i64 @a(i64 %x, i64 %y) {\n  ret i64 %y\n}\n",
+    "define i64 @a(i64 %x, i64 %y) {\n  call void @llvm.dbg.value(metadata i64 %x, metadata !1, metadata !DIExpression()), !dbg !2\n  ret i64 %y\n}\ndeclare void @llvm.dbg.value(metadata, metadata, metadata)\n!1 = !{}\n!2 = !{}\n",
+];
+
 #[test]
-fn texts_outside_the_built_set_are_refused_by_line(rt: HostRuntime) -> Result<(), Fail> {
-    for (text, err) in [
-        (
-            "define i32 @a() {\n  ret i32 2048\n}\n",
-            "llc: refused 18 NotYet 2\n",
-        ),
-        (
-            "define i64 @a() {\r\n  ret i64 0\r\n}\r\n",
-            "llc: refused 18 NotYet 1\n",
-        ),
-        (
-            "define i64 @a() {\n  ret i64 0\n}",
-            "llc: refused 18 NotYet 3\n",
-        ),
-    ] {
+fn what_the_grammar_drops_changes_no_assembly(rt: HostRuntime) -> Result<(), Fail> {
+    for text in SECOND_ARGUMENTS {
+        let told = compile(&rt, text.as_bytes())?;
+        assert_eq!(rt; told.status, Status::Done, "{text}");
+        assert_eq!(rt;
+            told.out.as_slice(),
+            b"#--- part 0\n\t.text\n\t.globl\ta\n\t.p2align\t2\na:\n\tmv\tt0, a0\n\tmv\tt0, a1\n\tmv\ta0, t0\n\tret\n"
+                .as_slice(),
+            "{text}"
+        );
+        assert_eq!(rt; told.err.len(), 0, "{text}");
+    }
+    Ok(())
+}
+
+/// Texts that are not read, and the line that tells why.
+const UNREAD: [(&[u8], &str); 9] = [
+    (b"\xff\xfe\n", "llc: refused 2 Lex 1\n"),
+    (
+        b"\x01define void @a(<4 x i32> %x) {\n",
+        "llc: refused 2 Lex 1\n",
+    ),
+    (
+        b"define void @a(<4 x i32> %x) {\n",
+        "llc: refused 3 Unsupported 1 <\n",
+    ),
+    (b"\nalloca", "llc: refused 3 Unsupported 2 alloca\n"),
+    (
+        b"define i64 @a() {\n  %x = add alloca",
+        "llc: refused 4 Form 2\n",
+    ),
+    (
+        b"define i64 @a(i64 %x) {\n  %y = add i64 %x\n",
+        "llc: refused 4 Form 2\n",
+    ),
+    (
+        b"define i64 @a() {\n  ret i64 +7\n}\n",
+        "llc: refused 4 Form 2\n",
+    ),
+    (
+        b"define i64 @a() {\n  ret i64 %y\n}\n",
+        "llc: refused 5 Name 2\n",
+    ),
+    (
+        b"define i64 @a(i64 %1) {\n  ret i64 0\n}\n",
+        "llc: refused 5 Name 1\n",
+    ),
+];
+
+#[test]
+fn texts_that_are_not_read_are_refused_by_line(rt: HostRuntime) -> Result<(), Fail> {
+    for (text, err) in UNREAD {
+        let told = compile(&rt, text)?;
+        assert_eq!(rt; told.status, Status::Refused, "{err}");
+        assert_eq!(rt; told.err.as_slice(), err.as_bytes(), "{err}");
+        assert_eq!(rt; told.out.len(), 0, "{err}");
+    }
+    Ok(())
+}
+
+/// Modules that are not built yet, and the first line that isn't.
+const NOT_YET: [(&str, u32); 34] = [
+    ("define i64 @a() {\n  ret i64 2048\n}\n", 2),
+    ("define i64 @a() {\n  ret i64 -2049\n}\n", 2),
+    ("define i64 @a() {\n  ret i32 0\n}\n", 2),
+    ("define i64 @a() {\n  ret i64 undef\n}\n", 2),
+    ("define i64 @a() {\nentry:\n  unreachable\n}\n", 2),
+    ("define i64 @a() {\n  br label %b\nb:\n  ret i64 0\n}\n", 2),
+    (
+        "define i64 @a(i64 %x) {\n  %y = add i64 %x, 1\n  ret i64 %y\n}\n",
+        2,
+    ),
+    ("define void @a() {\n  ret void\n}\n", 1),
+    ("define i8 @a() {\n  ret i8 0\n}\n", 1),
+    ("define i64 @a(i32 %x) {\n  ret i64 0\n}\n", 1),
+    ("\ndefine internal i64 @a() {\n  ret i64 0\n}\n", 2),
+    ("define hidden i64 @a() {\n  ret i64 0\n}\n", 1),
+    (
+        "define i64 @a(i64, i64, i64, i64, i64, i64, i64, i64, i64) {\n  ret i64 0\n}\n",
+        1,
+    ),
+    ("define i64 @\"a b\"() {\n  ret i64 0\n}\n", 1),
+    ("define i64 @0() {\n  ret i64 0\n}\n", 1),
+    ("define i64 @_start() {\n  ret i64 0\n}\n", 1),
+    ("define i64 @__host_a() {\n  ret i64 0\n}\n", 1),
+    ("define i64 @.LBB0a() {\n  ret i64 0\n}\n", 1),
+    ("define i64 @a() {\n  ret i64 0\n}\ndeclare void @.LBB7()\n", 4),
+    ("declare [2 x i64] @a()\n", 1),
+    ("declare void @a({ i64 })\n", 1),
+    ("declare void @__host_put(i64)\n", 1),
+    ("declare i32 @__host_get(i32)\n", 1),
+    ("@a = global i64 0\n", 1),
+    ("@a = external global i64\n", 1),
+    ("declare void @b()\n@a = alias void (), ptr @b\n", 2),
+    (
+        "define i64 @a() {\n  ret i64 0\n}\ndefine i64 @a() {\n  ret i64 0\n}\n",
+        4,
+    ),
+    ("define i64 @a(i64 %x,\n  i64 %x) {\n  ret i64 0\n}\n", 2),
+    ("define i64 @a(i64 %x) {\nx:\n  ret i64 0\n}\n", 2),
+    ("declare void @a(i64 %x,\n  i64 %x)\n", 2),
+    ("%t = type { i8 }\n%t = type { i8 }\n", 2),
+    ("%u = type { i8 }\n%t = type { [2 x %t] }\n", 2),
+    ("%t = type { [4294967295 x i16] }\n", 1),
+    (
+        "%t = type { i8 }\ndeclare void @a(i8, i8, i8, i8, i8, i8, i8, i8, i8, i8, i8, i8, i8, i8, i8, i8, i8, i8, i8, i8, i8, i8, i8, i8, i8, i8, i8, i8, i8, i8, i8, i8, i8, i8, i8, i8, i8, i8, i8, i8, i8, i8, i8, i8, i8, i8, i8, i8, i8, i8, i8, i8, i8, i8, i8, i8, i8, i8, i8, i8, i8, i8, i8, i8, i8)\n",
+        1,
+    ),
+];
+
+#[test]
+fn the_first_line_that_is_not_built_is_named(rt: HostRuntime) -> Result<(), Fail> {
+    for (text, line) in NOT_YET {
         let told = compile(&rt, text.as_bytes())?;
         assert_eq!(rt; told.status, Status::Refused, "{text}");
-        assert_eq!(rt; told.err.as_slice(), err.as_bytes(), "{text}");
+        let mut due = Vec::from_slice(rt.alloc(), b"llc: refused 18 NotYet ")?;
+        due.extend_from_slice(Buffer::new().format(line).as_bytes())?;
+        due.push(b'\n')?;
+        assert_eq!(rt; told.err.as_slice(), due.as_slice(), "{text}");
         assert_eq!(rt; told.out.len(), 0, "{text}");
     }
-    let told = compile(&rt, b"\xff\xfe\n")?;
-    assert_eq!(rt;
-        told.err.as_slice(),
-        b"llc: refused 18 NotYet 1\n".as_slice()
-    );
+    Ok(())
+}
+
+/// So many functions of eight parameters each, a line each.
+fn many_functions(alloc: Global, count: u32) -> Result<Vec<u8>, AllocError> {
+    let mut text = Vec::new(alloc);
+    for number in 0..count {
+        text.extend_from_slice(b"define i64 @f")?;
+        text.extend_from_slice(Buffer::new().format(number).as_bytes())?;
+        text.extend_from_slice(
+            b"(i64 %a, i64 %b, i64 %c, i64 %d, i64 %e, i64 %f, i64 %g, i64 %h) { ret i64 %h }\n",
+        )?;
+    }
+    Ok(text)
+}
+
+#[test]
+fn as_many_functions_as_there_may_be_are_compiled(rt: HostRuntime) -> Result<(), Fail> {
+    let told = compile(&rt, &many_functions(rt.alloc(), 4096)?)?;
+    assert_eq!(rt; told.status, Status::WriteFault);
+    let told = compile(&rt, &many_functions(rt.alloc(), 4097)?)?;
+    assert_eq!(rt; told.status, Status::Refused);
+    assert_eq!(rt; told.err.as_slice(), b"llc: refused 18 NotYet 1\n".as_slice());
     Ok(())
 }
 
 /// Modules, what `run` answers to each, and the line that tells why.
-const RUNS: [(&str, Status, &str); 7] = [
+const RUNS: [(&str, Status, &str); 8] = [
     (
         "define i32 @main() {\n  ret i32 -7\n}\n",
         Status::Done,
@@ -123,6 +256,11 @@ const RUNS: [(&str, Status, &str); 7] = [
         "exit 2047\n",
     ),
     (ARGUMENT, Status::Refused, "llc: refused 14 NoMain\n"),
+    (
+        "declare i32 @main()\n",
+        Status::Refused,
+        "llc: refused 14 NoMain\n",
+    ),
     (
         "define i64 @main() {\n  ret i64 0\n}\n",
         Status::Refused,
@@ -235,7 +373,7 @@ fn more_than_sixteen_mebibytes_are_too_long(rt: HostRuntime) -> Result<(), Fail>
         b"llc: refused 1 TooLong 16777217\n".as_slice()
     );
     let told = compile_rubbish(&rt, 16_777_216)?;
-    assert_eq!(rt; told.as_slice(), b"llc: refused 18 NotYet 1\n".as_slice());
+    assert_eq!(rt; told.as_slice(), b"llc: refused 4 Form 1\n".as_slice());
     Ok(())
 }
 
