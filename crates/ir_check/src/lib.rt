@@ -2,6 +2,7 @@
 //! nothing may have, types that have no size, and types of declared functions.
 #![tactic(auto)]
 
+mod defined;
 mod extent;
 mod measured;
 mod names;
