@@ -1,3 +1,6 @@
+pub mod Extents
+pub mod Measured
+pub mod NameMaps
 pub mod Repeated
 pub mod Reserved
 pub mod Signatures

@@ -1,4 +1,7 @@
 -- Names that are defined twice (LangRef, "Identifiers").
+use Rattle.std.proofs.Common.{◌≡◌, ◌∙◌, sym, ap}
+use base.Stored.{Coded}
+use Rattle.ir_syntax.specs.Codes.{use_code, use_back, use_back_code}
 use Rattle.std.specs.Prelude.{ℕ, Bool, Option, None, Some, List, [], ◌∷◌, ◌++◌, map, if◌then◌else◌}
 use Rattle.std.specs.List.{flat_map, list_any}
 use Rattle.ir_syntax.specs.Names.{same_name}
@@ -15,6 +18,10 @@ use Rattle.ir_syntax.specs.declared.type_def.TypeDef.{TypeDef}
 -- a name with the line of the first token of what it is defined for
 abbrev pub defined_at : ℕ → Name → NameUse
 defined_at line name = record { line = line; name = name }
+
+-- such a name as a tree of numbers
+abbrev pub defined_code : Coded NameUse
+defined_code = record { code = use_code; inj = λ x y p. sym (use_back_code x) ∙ ap use_back p ∙ use_back_code y }
 
 abbrev pub type_name : TypeDef → NameUse
 type_name t = defined_at t.line t.name

@@ -2,10 +2,15 @@
 //! nothing may have, types that have no size, and types of declared functions.
 #![tactic(auto)]
 
+mod defined;
+mod extent;
+mod measured;
+mod names;
 mod repeated;
 mod reserved;
 mod signatures;
 mod sized;
+mod table;
 
 pub use repeated::repeated_lines;
 pub use reserved::{is_label_name, is_reserved};

@@ -1,8 +1,14 @@
 //! Names that are defined twice (LangRef, "Identifiers").
-ghost use Rattle.std.specs.Prelude.{◌≡◌, IfOk};
-ghost use Rattle.ir_check.specs.Repeated.{repeated_lines};
+ghost use Rattle.std.specs.Prelude.{◌≡◌, ◌++◌, None, Some, IfOk, OnOk, is_some, map, if◌then◌else◌};
+ghost use Rattle.std.specs.List.{flat_map};
+ghost use Rattle.ir_syntax.specs.Names.{same_name};
+ghost use Rattle.ir_syntax.specs.declared.name.Name.{Name};
+ghost use Rattle.ir_check.specs.NameMaps.{or_else, value_of};
+ghost use Rattle.ir_check.specs.Repeated.{function_name_at, line_if, local_names, repeated_lines, repeats, type_name};
 
-use ir_syntax::Module;
+use crate::defined::{Defined, push_functions, push_locals, push_types};
+use crate::names::NameMap;
+use ir_syntax::{Function, Module, TypeDef};
 use std::alloc::{AllocError, Global};
 
 /// The lines, from 1, of the items of a module that define a name for the second time: a function's, a type's,
@@ -10,5 +16,96 @@ use std::alloc::{AllocError, Global};
 pub fn repeated_lines(alloc: Global, m: &Module) -> Result<Vec<u32>, AllocError>
     ensures { IfOk result (λ lines. lines.items ≡ repeated_lines m.now) }
 {
-    Err(AllocError)
+    let mut lines = Vec::new(alloc);
+    push_repeated_types(alloc, &mut lines, m.types.as_slice())?;
+    push_repeated_functions(alloc, &mut lines, m.functions.as_slice())?;
+    push_repeated_locals(alloc, &mut lines, m.functions.as_slice())?;
+    Ok(lines)
+}
+
+fn push_repeated_types(
+    alloc: Global,
+    lines: &mut Vec<u32>,
+    types: &[TypeDef],
+) -> Result<(), AllocError>
+    ensures { OnOk result (lines.new.items ≡ lines.old.items ++ repeats (map type_name types.now)) }
+{
+    let mut names = Vec::new(alloc);
+    push_types(&mut names, types)?;
+    push_repeats(alloc, lines, names.as_slice())
+}
+
+fn push_repeated_functions(
+    alloc: Global,
+    lines: &mut Vec<u32>,
+    functions: &[Function],
+) -> Result<(), AllocError>
+    ensures { OnOk result (lines.new.items ≡ lines.old.items ++ repeats (map function_name_at functions.now)) }
+{
+    let mut names = Vec::new(alloc);
+    push_functions(&mut names, functions)?;
+    push_repeats(alloc, lines, names.as_slice())
+}
+
+fn push_repeated_locals(
+    alloc: Global,
+    lines: &mut Vec<u32>,
+    functions: &[Function],
+) -> Result<(), AllocError>
+    ensures { OnOk result (lines.new.items ≡ lines.old.items ++ flat_map (λ f. repeats (local_names f)) functions.now) }
+{
+    for function in functions {
+        push_repeated_in(alloc, lines, function)?;
+    }
+    Ok(())
+}
+
+fn push_repeated_in(
+    alloc: Global,
+    lines: &mut Vec<u32>,
+    function: &Function,
+) -> Result<(), AllocError>
+    ensures { OnOk result (lines.new.items ≡ lines.old.items ++ repeats (local_names function.now)) }
+{
+    let mut names = Vec::new(alloc);
+    push_locals(&mut names, function)?;
+    push_repeats(alloc, lines, names.as_slice())
+}
+
+/// Adds the lines of the names that are among those before them.
+fn push_repeats(
+    alloc: Global,
+    lines: &mut Vec<u32>,
+    names: &[Defined<'_>],
+) -> Result<(), AllocError>
+    ensures { OnOk result (lines.new.items ≡ lines.old.items ++ repeats names.now) }
+{
+    let mut seen = NameMap::new(alloc);
+    for defined in names {
+        push_if_seen(lines, &seen, defined)?;
+        see(&mut seen, defined)?;
+    }
+    Ok(())
+}
+
+/// Adds the line of a name if it was seen before.
+fn push_if_seen(
+    lines: &mut Vec<u32>,
+    seen: &NameMap<'_, ()>,
+    defined: &Defined<'_>,
+) -> Result<(), AllocError>
+    ensures { OnOk result (lines.new.items
+        ≡ lines.old.items ++ line_if (is_some (value_of seen.now defined.now.name)) defined.now.line) }
+{
+    if seen.get(defined.name).is_some() {
+        lines.push(defined.line)?;
+    }
+    Ok(())
+}
+
+fn see<'a>(seen: &mut NameMap<'a, ()>, defined: &Defined<'a>) -> Result<(), AllocError>
+    ensures { OnOk result ((other : Name) → value_of seen.new other
+        ≡ or_else (value_of seen.old other) (if same_name other defined.now.name then Some tt else None)) }
+{
+    seen.add(defined.name, ())
 }

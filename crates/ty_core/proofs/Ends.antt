@@ -10,7 +10,7 @@ begins_behind : (packed : Bool) (at : ℕ) (field : Tree) → at ≤ begin_at pa
 begins_behind true at field = omega arith
 begins_behind false at field = (div_ceil_times at (align_of field) (positive_align field)).0
 
-ends_behind : (packed : Bool) (at : ℕ) (fields : Trees) → at ≤ end_of packed at fields
+pub ends_behind : (packed : Bool) (at : ℕ) (fields : Trees) → at ≤ end_of packed at fields
 ends_behind packed at end = omega arith
 ends_behind packed at (more head tail) =
     let next : ℕ = begin_at packed at (align_of head) + rounded (size_of head) (align_of head) in

@@ -29,13 +29,17 @@ least_power size =
 abbrev pub IsAlign : ℕ → Type 0
 IsAlign align = (0 < align) × (align ≤ 32)
 
+-- the alignment of a struct of which this is the greatest alignment of a field
+abbrev pub struct_align : Bool → ℕ → ℕ
+struct_align packed greatest = if packed then 1 else greatest
+
 abbrev mutual
   -- the alignment of a type: of an array its element's, of a struct the greatest of its fields', 1 if it is packed
   pub align_of : Tree → ℕ
   align_of (int bits) = least_power (bytes_of bits)
   align_of ptr = 8
   align_of (array len elem) = align_of elem
-  align_of (struct packed fields) = if packed then 1 else greatest_align fields
+  align_of (struct packed fields) = struct_align packed (greatest_align fields)
 
   -- the greatest alignment of these types, 1 where there are none
   pub greatest_align : Trees → ℕ
@@ -46,13 +50,17 @@ abbrev mutual
 abbrev pub begin_at : Bool → ℕ → ℕ → ℕ
 begin_at packed at align = if packed then at else rounded at align
 
+-- the layout of a struct whose fields end at `at` and have this greatest alignment
+abbrev pub layout_behind : Bool → ℕ → ℕ → Layout
+layout_behind packed at greatest = record { size = rounded at (struct_align packed greatest); align = struct_align packed greatest }
+
 abbrev mutual
   -- the size of a type: an element takes its stride, as a field does, and a struct ends at a multiple of its alignment
   pub size_of : Tree → ℕ
   size_of (int bits) = bytes_of bits
   size_of ptr = 8
   size_of (array len elem) = len * rounded (size_of elem) (align_of elem)
-  size_of (struct packed fields) = rounded (end_of packed 0 fields) (if packed then 1 else greatest_align fields)
+  size_of (struct packed fields) = rounded (end_of packed 0 fields) (struct_align packed (greatest_align fields))
 
   -- where the last of these fields ends, the first of them behind a field that ends at `at`
   pub end_of : Bool → ℕ → Trees → ℕ

@@ -9,7 +9,9 @@ mod node;
 mod types;
 
 pub use extent::{Layout, TooBig};
-pub use measure::{alignments_are_powers_of_two, layout};
+pub use measure::{
+    alignments_are_powers_of_two, array_layout, end_behind, integer_layout, layout, layout_behind,
+};
 pub use node::{TyId, TyNode};
 pub use types::{Ty, TyList};
 

@@ -2,7 +2,7 @@
 ghost use Rattle.std.specs.Prelude.{◌≡◌, ◌≤◌, ◌<◌, ◌+◌, ◌*◌, IfOk, OnOk, OnErr};
 ghost use Rattle.ty_core.specs.Tree.{Tree, tree_of, trees_of, struct};
 ghost use Rattle.std.specs.Int.{IsPowerOfTwo};
-ghost use Rattle.ty_core.specs.Size.{IsAlign, align_of, layout_of, greatest_size, size_limit, rounded, least_power, bytes_of, begin_at};
+ghost use Rattle.ty_core.specs.Size.{IsAlign, align_of, layout_of, greatest_size, size_limit, rounded, least_power, bytes_of, begin_at, layout_behind};
 
 use crate::extent::{Layout, TooBig};
 use crate::types::{Ty, TyList};
@@ -64,8 +64,8 @@ fn within_limit(size: u64) -> Result<u64, TooBig>
     }
 }
 
-/// The layout of an integer of this many bits.
-fn integer_layout(bits: u8) -> Layout
+/// The layout of an integer of this many bits (LangRef, "Integer Type").
+pub fn integer_layout(bits: u8) -> Layout
     ensures size { result.size ≡ bytes_of bits }
     ensures align { result.align ≡ least_power (bytes_of bits) }
 {
@@ -76,8 +76,12 @@ fn integer_layout(bits: u8) -> Layout
     }
 }
 
-/// The layout of an array of `len` elements, each of which has the layout `each`.
-fn array_layout(len: u32, each: Layout) -> Result<Layout, TooBig>
+/// The layout of an array of `len` elements, each of which has the layout `each` (LangRef, "Array Type").
+///
+/// # Errors
+///
+/// [`TooBig`] where the array takes more than 4,294,967,295 bytes.
+pub fn array_layout(len: u32, each: Layout) -> Result<Layout, TooBig>
     requires low { each.size ≤ size_limit }
     requires aligned { IsAlign each.align }
     ensures ok { IfOk result (λ l. l ≡ record { size = len * rounded each.size each.align; align = each.align }) }
@@ -92,8 +96,13 @@ fn array_layout(len: u32, each: Layout) -> Result<Layout, TooBig>
     })
 }
 
-/// Where a field of the layout `field` ends that stands behind one that ends at `at`.
-fn end_behind(packed: bool, at: u64, field: Layout) -> Result<u64, TooBig>
+/// Where a field of the layout `field` ends that stands behind one that ends at `at` bytes, from the start of their
+/// struct (LangRef, "Structure Type").
+///
+/// # Errors
+///
+/// [`TooBig`] where it ends behind 4,294,967,295 bytes.
+pub fn end_behind(packed: bool, at: u64, field: Layout) -> Result<u64, TooBig>
     requires low { at ≤ size_limit }
     requires size { field.size ≤ size_limit }
     requires aligned { IsAlign field.align }
@@ -108,6 +117,24 @@ fn end_behind(packed: bool, at: u64, field: Layout) -> Result<u64, TooBig>
     };
     let end = begin + round_up(field.size, field.align);
     within_limit(end)
+}
+
+/// The layout of a struct whose fields end at `end` bytes and have this greatest alignment, 1 if there is no field
+/// (LangRef, "Structure Type").
+///
+/// # Errors
+///
+/// [`TooBig`] where the struct takes more than 4,294,967,295 bytes.
+pub fn layout_behind(packed: bool, end: u64, greatest: u64) -> Result<Layout, TooBig>
+    requires low { end ≤ size_limit }
+    requires aligned { IsAlign greatest }
+    ensures ok { IfOk result (λ l. l ≡ layout_behind packed end greatest) }
+    ensures within { IfOk result (λ l. l.size ≤ size_limit) }
+    ensures too_big { OnErr result (size_limit < (layout_behind packed end greatest).size) }
+{
+    let align = if packed { 1 } else { greatest };
+    let size = within_limit(round_up(end, align))?;
+    Ok(Layout { size, align })
 }
 
 /// The layout of a struct with these fields.
@@ -128,9 +155,7 @@ fn struct_layout(packed: bool, fields: &TyList) -> Result<Layout, TooBig>
         greatest = greatest.max(field.align);
         rest = tail;
     }
-    let align = if packed { 1 } else { greatest };
-    let size = within_limit(round_up(end, align))?;
-    Ok(Layout { size, align })
+    layout_behind(packed, end, greatest)
 }
 
 /// The alignment of each type is a power of two.

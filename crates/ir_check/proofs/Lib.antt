@@ -1,0 +1,3 @@
+pub mod ExtentLemmas
+pub mod NameLemmas
+pub mod RepeatedLemmas
