@@ -11,11 +11,13 @@ use Rattle.rv_mach.specs.Run.{Shown}
 use Rattle.cg_part.specs.Allowed.{Allowed, RunsAllowed, Shows}
 use Rattle.cg_part.specs.Built.{IsBuiltFunction}
 use Rattle.cg_part.specs.Code.{addi, move, value_code}
+use Rattle.cg_part.specs.Definitions.{defined_functions}
 use Rattle.cg_part.specs.Meaning.{IsMain, IsRun, Returns, wrapped, going, ended, opening}
 use Rattle.cg_part.specs.Program.{IsProgram, part_object, program_bytes, program_count}
 use Rattle.cg_part.specs.Text.{part_text}
 use Rattle.rv_isa.specs.Text.{is_zero}
 use Rattle.cg_part.proofs.AssemblingLemmas.{part_assembles}
+use Rattle.cg_part.proofs.LinkingLists.{main_defined}
 use Rattle.cg_part.proofs.LinkingMain.{main_code}
 use Rattle.cg_part.proofs.LinkingNames.{part_resolves}
 use Rattle.cg_part.proofs.LinkingProgram.{program_exits}
@@ -67,7 +69,7 @@ exits_allowed m f image input count steps code value n main returns few same exi
 pub program_shows : (m : Module) (f : Function) → IsProgram m → IsMain m f → (input : List ℕ) (n : ℕ) →
     Allowed m (program_bytes m) (program_count m) input n
 program_shows m f program main input n =
-    let built : IsBuiltFunction f = All-contains IsBuiltFunction m.functions f program.built.functions main.among in
+    let built : IsBuiltFunction f = All-contains IsBuiltFunction (defined_functions m) f program.built.functions (main_defined m f main) in
     let constant = main_code m f built main in
     exits_allowed m f (program_bytes m) input (program_count m) (length (value_code constant.value) + 6)
     (low_bits 64 constant.value % 2 ^ 32) (wrapped 32 constant.value) n main constant.returns

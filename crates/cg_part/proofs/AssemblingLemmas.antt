@@ -11,6 +11,7 @@ use Rattle.ir_syntax.specs.declared.module.Module.{Module}
 use Rattle.rv_isa.specs.declared.inst.Line.{Line}
 use Rattle.cg_part.specs.Allowed.{Assembles}
 use Rattle.cg_part.specs.Built.{IsBuiltFunction}
+use Rattle.cg_part.specs.Definitions.{defined_functions}
 use Rattle.cg_part.specs.Program.{IsProgram, part_forms, part_object}
 use Rattle.cg_part.specs.Text.{part_text}
 use Rattle.cg_part.proofs.AssemblingForms.{part_allowed}
@@ -21,12 +22,12 @@ use Rattle.cg_part.proofs.AssemblingText.{text_said}
 
 pub part_assembles : (m : Module) → IsProgram m → Assembles (part_text m) (part_object m)
 part_assembles m program =
-    let allowed = part_allowed m.functions (recursion_from_All IsBuiltFunction m.functions program.built.functions) in (
-      part_forms m.functions,
+    let allowed = part_allowed (defined_functions m) (recursion_from_All IsBuiltFunction (defined_functions m) program.built.functions) in (
+      part_forms (defined_functions m),
       record {
         spelled = text_said m;
         allowed = allowed;
-        no_bad_line = passed_not_bad (part_forms m.functions) allowed (part_passed m.functions program.differ);
+        no_bad_line = passed_not_bad (part_forms (defined_functions m)) allowed (part_passed (defined_functions m) program.differ);
       },
       object_of_part m,
     )

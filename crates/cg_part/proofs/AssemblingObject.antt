@@ -13,6 +13,7 @@ use Rattle.ir_syntax.specs.declared.module.Module.{Module}
 use Rattle.rv_isa.specs.declared.inst.Inst.{Inst}
 use Rattle.rv_isa.specs.declared.inst.Line.TheVariants.{Plain}
 use Rattle.cg_part.specs.Code.{function_code}
+use Rattle.cg_part.specs.Definitions.{defined_functions}
 use Rattle.cg_part.specs.Program.{code_forms, function_name, part_code, part_forms, part_object, part_symbols}
 use Rattle.cg_part.proofs.AssemblingNames.{all_marked}
 
@@ -80,9 +81,9 @@ functions_symbols all before n (f ∷ functions) counted shown =
     (functions_symbols all (front ++ code_forms code) (n + length code) functions count shown.1
     ∙ sym (code_symbols all front code (part_forms functions)))
 
-pub object_of_part : (m : Module) → IsObjectOf (part_forms m.functions) (part_object m)
+pub object_of_part : (m : Module) → IsObjectOf (part_forms (defined_functions m)) (part_object m)
 object_of_part m = record {
-  has_words = part_words m.functions;
-  has_symbols = functions_symbols (part_forms m.functions) [] 0 m.functions refl (all_marked m.functions);
+  has_words = part_words (defined_functions m);
+  has_symbols = functions_symbols (part_forms (defined_functions m)) [] 0 (defined_functions m) refl (all_marked (defined_functions m));
   has_no_needs = refl;
 }

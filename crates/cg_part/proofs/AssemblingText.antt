@@ -8,6 +8,7 @@ use Rattle.rv_isa.specs.Lines.{text_of_lines}
 use Rattle.rv_isa.specs.Text.{instruction_line}
 use Rattle.rv_isa.specs.declared.inst.Inst.{Inst}
 use Rattle.cg_part.specs.Code.{function_code}
+use Rattle.cg_part.specs.Definitions.{defined_functions}
 use Rattle.cg_part.specs.Program.{code_forms, function_forms, part_forms}
 use Rattle.cg_part.specs.Text.{function_lines, head_lines, part_lines, part_text, symbol_of}
 
@@ -26,6 +27,6 @@ part_said (f ∷ functions) =
     ∙ ap (λ back. map form_line (function_forms f) ++ back) (part_said functions)
     ∙ sym (map-append form_line (function_forms f) (part_forms functions))
 
-pub text_said : (m : Module) → part_text m ≡ text_of_lines (map form_line (part_forms m.functions))
+pub text_said : (m : Module) → part_text m ≡ text_of_lines (map form_line (part_forms (defined_functions m)))
 unfolding part_text
-text_said m = ap text_of_lines (part_said m.functions)
+text_said m = ap text_of_lines (part_said (defined_functions m))

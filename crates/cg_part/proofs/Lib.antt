@@ -5,7 +5,9 @@ pub mod AssemblingNames
 pub mod AssemblingObject
 pub mod AssemblingPassed
 pub mod AssemblingText
+pub mod BuiltLemmas
 pub mod CodeLemmas
+pub mod DistinctNames
 pub mod InstructionLemmas
 pub mod LinkingLists
 pub mod LinkingMain
@@ -13,6 +15,8 @@ pub mod LinkingNames
 pub mod LinkingProgram
 pub mod LinkingSizes
 pub mod LinkingWords
+pub mod NameLemmas
+pub mod NoLines
 pub mod PlaceLemmas
 pub mod QuietLines
 pub mod ResolvingLemmas
@@ -25,3 +29,4 @@ pub mod RunningWords
 pub mod Splitting
 pub mod Tables
 pub mod TextLemmas
+pub mod UnbuiltLemmas

@@ -1,9 +1,13 @@
 -- An element of a list with what stands before and after it, and the code of functions around one of them.
-use Rattle.std.proofs.Common.{◌≡◌, ◌++◌, ◌∷◌, [], List, zero, suc, map, Contains, ap, arith}
+use Rattle.std.proofs.Common.{◌≡◌, ◌++◌, ◌∷◌, [], Bool, true, cond, List, zero, suc, filter, map, Contains, ap, arith, refl, subst, sym, ◌∙◌}
 use Rattle.std.specs.List.{AllByRecursion as ByRecursion}
 use Rattle.std.proofs.lemmas.Grind.{flat_map-append}
+use Rattle.std.proofs.lemmas.List.Elements.{Contains-append_right, filter-append}
 use Rattle.ir_syntax.specs.declared.function.Function.{Function}
+use Rattle.ir_syntax.specs.declared.module.Module.{Module}
 use Rattle.cg_part.specs.Code.{function_code}
+use Rattle.cg_part.specs.Definitions.{defined_functions, has_body}
+use Rattle.cg_part.specs.Meaning.{IsMain}
 use Rattle.cg_part.specs.Program.{part_code}
 
 -- a list around an element
@@ -18,6 +22,19 @@ around (y ∷ xs) x (zero, inside, here) = record { front = []; back = xs; is = 
 around (y ∷ xs) x (suc k, inside, here) =
     let later = around xs x (k, omega arith, here) in
     record { front = y ∷ later.front; back = later.back; is = ap (λ all. y ∷ all) later.is }
+
+-- an element that passes a test is among those that pass
+pub among_passing : {A : Type 0} (test : A → Bool) (xs : List A) (x : A) → Contains xs x → test x ≡ true → Contains (filter test xs) x
+among_passing test xs x among passes =
+    let place = around xs x among in
+    let rest : filter test (x ∷ place.back) ≡ x ∷ filter test place.back = ap (λ t. cond t (x ∷ filter test place.back) (filter test place.back)) passes in
+    let whole : filter test xs ≡ filter test place.front ++ x ∷ filter test place.back =
+    ap (filter test) place.is ∙ filter-append test place.front (x ∷ place.back) ∙ ap (λ more. filter test place.front ++ more) rest in
+    subst (λ all. Contains all x) (sym whole) (Contains-append_right (filter test place.front) (x ∷ filter test place.back) x (0, omega arith, refl))
+
+-- so `main` is among the functions that are defined
+pub main_defined : (m : Module) (f : Function) → IsMain m f → Contains (defined_functions m) f
+main_defined m f main = among_passing has_body m.functions f main.among main.defined
 
 -- what holds of each element holds of one among them
 pub at_middle : {A B : Type 0} (P : B → Type 0) (g : A → B) (front back : List A) (x : A) →

@@ -5,15 +5,19 @@ use Rattle.std.specs.Str.{bytes_eq}
 use Rattle.std.proofs.lemmas.List.Elements.{recursion_from_All}
 use Rattle.std.proofs.lemmas.Slice.Eq.{bytes_eq-Decides}
 use Rattle.asm_read.specs.declared.object.ObjectSymbol.{ObjectSymbol}
+use Rattle.ir_check.specs.Reserved.{is_reserved}
 use Rattle.ir_syntax.specs.declared.function.Function.{Function}
 use Rattle.ir_syntax.specs.declared.module.Module.{Module}
 use Rattle.obj_link.specs.Cause.{IsResolved}
 use Rattle.obj_link.specs.Names.{is_global, defines_global, duplicates}
 use Rattle.obj_link.specs.Runtime.{runtime}
+use Rattle.cg_part.specs.Built.{IsBuiltFunction}
 use Rattle.cg_part.specs.Code.{function_code}
+use Rattle.cg_part.specs.Definitions.{defined_functions}
 use Rattle.cg_part.specs.Meaning.{IsMain}
-use Rattle.cg_part.specs.Program.{IsFree, IsProgram, function_name, part_object, part_symbols, program_objects}
-use Rattle.cg_part.proofs.LinkingLists.{around}
+use Rattle.cg_part.specs.Program.{IsProgram, function_name, part_object, part_symbols, program_objects}
+use Rattle.cg_part.proofs.LinkingLists.{around, main_defined}
+use Rattle.cg_part.proofs.NameLemmas.{free_differs, name_not_reserved}
 
 differ : (a b : List ℕ) → (b ≡ a → ⊥) → bytes_eq a b ≡ false
 differ a b other = by_test (bytes_eq a b) refl
@@ -25,13 +29,15 @@ differ a b other = by_test (bytes_eq a b) refl
 pub same : (a b : List ℕ) → a ≡ b → bytes_eq a b ≡ true
 same a b is = (bytes_eq-Decides a b).1 is
 
--- the runtime defines no free name
-free_of_runtime : (name : List ℕ) → IsFree name → is_global (runtime ∷ []) name ≡ false
+-- the runtime defines no name that a definition may have
+free_of_runtime : (name : List ℕ) → is_reserved name ≡ false → is_global (runtime ∷ []) name ≡ false
 free_of_runtime name free =
     let none : Bool → Bool → Bool → Bool = λ a b c. ((true && a) || ((true && b) || ((true && c) || false))) || false in
-    ap (λ a. none a (bytes_eq (codes "__host_put") name) (bytes_eq (codes "__host_get") name)) (differ (codes "_start") name free.not_start)
-    ∙ ap (λ b. none false b (bytes_eq (codes "__host_get") name)) (differ (codes "__host_put") name (free.not_host (codes "put")))
-    ∙ ap (λ c. none false false c) (differ (codes "__host_get") name (free.not_host (codes "get")))
+    let differs : (other : List ℕ) → is_reserved other ≡ true → bytes_eq other name ≡ false =
+    λ other taken. differ other name (free_differs name other free taken) in
+    ap (λ a. none a (bytes_eq (codes "__host_put") name) (bytes_eq (codes "__host_get") name)) (differs (codes "_start") refl)
+    ∙ ap (λ b. none false b (bytes_eq (codes "__host_get") name)) (differs (codes "__host_put") refl)
+    ∙ ap (λ c. none false false c) (differs (codes "__host_get") refl)
 
 -- whether a symbol is a global one that the runtime defines, too
 abbrev is_again : ObjectSymbol → Bool
@@ -40,12 +46,13 @@ is_again s = s.global && is_global (runtime ∷ []) s.name
 none_kept : {A : Type 0} (x : A) (more : List A) (test : Bool) → test ≡ false → more ≡ [] → cond test (x ∷ more) more ≡ []
 none_kept x more test fails none = ap (λ t. cond t (x ∷ more) more) fails ∙ none
 
-none_again : (before : ℕ) (functions : List Function) → ByRecursion (λ f. IsFree (function_name f)) functions →
+none_again : (before : ℕ) (functions : List Function) → ByRecursion IsBuiltFunction functions →
     filter is_again (part_symbols before functions) ≡ []
-none_again before [] free = refl
-none_again before (f ∷ functions) free =
-    none_kept _ (filter is_again (part_symbols (before + length (function_code f)) functions)) _ (free_of_runtime (function_name f) free.0)
-    (none_again (before + length (function_code f)) functions free.1)
+none_again before [] built = refl
+none_again before (f ∷ functions) built =
+    none_kept _ (filter is_again (part_symbols (before + length (function_code f)) functions)) _
+    (free_of_runtime (function_name f) (name_not_reserved (function_name f) built.0.name))
+    (none_again (before + length (function_code f)) functions built.1)
 
 true_later : (b : Bool) → (b || true) ≡ true
 true_later true = refl
@@ -63,15 +70,15 @@ named_global before (g ∷ front) back f =
 
 defines_main : (m : Module) (f : Function) → IsMain m f → defines_global (part_object m) (codes "main") ≡ true
 defines_main m f main =
-    let place = around m.functions f main.among in
-    subst (λ name. list_any (λ s. s.global && bytes_eq s.name name) (part_symbols 0 m.functions) ≡ true) main.named
+    let place = around (defined_functions m) f (main_defined m f main) in
+    subst (λ name. list_any (λ s. s.global && bytes_eq s.name name) (part_symbols 0 (defined_functions m)) ≡ true) main.named
     (subst (λ functions. list_any (λ s. s.global && bytes_eq s.name (function_name f)) (part_symbols 0 functions) ≡ true) (sym place.is)
     (named_global 0 place.front place.back f))
 
 -- no name is defined twice, also where there is no `main`
 pub part_differs : (m : Module) → IsProgram m → duplicates (program_objects m) ≡ []
 part_differs m program =
-    ap (λ again. map (λ s. s.name) again ++ []) (none_again 0 m.functions (recursion_from_All _ m.functions program.free))
+    ap (λ again. map (λ s. s.name) again ++ []) (none_again 0 (defined_functions m) (recursion_from_All IsBuiltFunction (defined_functions m) program.built.functions))
 
 pub part_resolves : (m : Module) (f : Function) → IsProgram m → IsMain m f → IsResolved (program_objects m)
 part_resolves m f program main =

@@ -20,10 +20,11 @@ use Rattle.rv_isa.specs.declared.inst.Inst.{Inst}
 use Rattle.rv_isa.specs.declared.inst.Line.TheVariants.{Plain}
 use Rattle.cg_part.specs.Built.{IsBuiltFunction, IsBuiltBody, IsBuiltOperand, IsBuiltTerm}
 use Rattle.cg_part.specs.Code.{addi, move, return, copies, argument_code, constant_code, code_at, operand_code, term_code, body_code, function_code, value_code}
+use Rattle.cg_part.specs.Definitions.{defined_functions}
 use Rattle.cg_part.specs.Meaning.{IsMain}
 use Rattle.cg_part.specs.Program.{IsProgram, part_code, program_objects, program_count}
 use Rattle.cg_part.proofs.InstructionLemmas.{position_inside}
-use Rattle.cg_part.proofs.LinkingLists.{around, code_around}
+use Rattle.cg_part.proofs.LinkingLists.{around, code_around, main_defined}
 
 -- at least 2 and at most 12 instructions
 pub record IsShort (code : List Inst) : Type 0 where
@@ -92,13 +93,13 @@ part_short (f ∷ functions) built =
     omega arith
 
 -- the instructions of the runtime, and those of the functions
-pub program_counted : (m : Module) → program_count m ≡ 12 + length (part_code m.functions)
-program_counted m = ap (λ n. 12 + n) (length-map (part_code m.functions) (λ i. Plain i))
+pub program_counted : (m : Module) → program_count m ≡ 12 + length (part_code (defined_functions m))
+program_counted m = ap (λ n. 12 + n) (length-map (part_code (defined_functions m)) (λ i. Plain i))
 
 -- at most 12 instructions for each of 4096 functions
-pub part_fits : (m : Module) → IsProgram m → length (part_code m.functions) ≤ 49152
+pub part_fits : (m : Module) → IsProgram m → length (part_code (defined_functions m)) ≤ 49152
 part_fits m program =
-    let short = part_short m.functions (recursion_from_All IsBuiltFunction m.functions program.built.functions) in
+    let short = part_short (defined_functions m) (recursion_from_All IsBuiltFunction (defined_functions m) program.built.functions) in
     let few = program.few in
     omega arith
 
@@ -112,11 +113,11 @@ part_is_small m program =
 -- the runtime's 12 instructions, and at least 2 of `main`
 pub program_least : (m : Module) (f : Function) → IsBuiltFunction f → IsMain m f → 14 ≤ program_count m
 program_least m f built main =
-    let place = around m.functions f main.among in
+    let place = around (defined_functions m) f (main_defined m f main) in
     let front : List Inst = part_code place.front in
     let back : List Inst = part_code place.back in
-    let code : part_code m.functions ≡ front ++ (function_code f ++ back) = ap part_code place.is ∙ code_around place.front place.back f in
-    let whole : length (part_code m.functions) ≡ length (front ++ (function_code f ++ back)) = ap length code in
+    let code : part_code (defined_functions m) ≡ front ++ (function_code f ++ back) = ap part_code place.is ∙ code_around place.front place.back f in
+    let whole : length (part_code (defined_functions m)) ≡ length (front ++ (function_code f ++ back)) = ap length code in
     let outer = length-append front (function_code f ++ back) in
     let inner = length-append (function_code f) back in
     let least = (code_short f built).least in

@@ -14,9 +14,10 @@ use Rattle.rv_isa.specs.Encoding.{encoded}
 use Rattle.rv_isa.specs.declared.inst.Inst.{Inst}
 use Rattle.rv_isa.specs.declared.inst.Line.TheVariants.{Plain}
 use Rattle.cg_part.specs.Code.{function_code}
+use Rattle.cg_part.specs.Definitions.{defined_functions}
 use Rattle.cg_part.specs.Meaning.{IsMain}
 use Rattle.cg_part.specs.Program.{IsProgram, function_name, part_code, part_object, part_symbols, program_objects, runtime_code}
-use Rattle.cg_part.proofs.LinkingLists.{around, at_middle, code_around}
+use Rattle.cg_part.proofs.LinkingLists.{around, at_middle, code_around, main_defined}
 use Rattle.cg_part.proofs.LinkingNames.{same}
 use Rattle.cg_part.proofs.LinkingSizes.{part_fits}
 use Rattle.cg_part.proofs.RunningCode.{runtime_encoded}
@@ -75,16 +76,16 @@ pub record HasMain (m : Module) (f : Function) : Type 0 where
   pub address : ℕ
   pub front : List Inst
   pub back : List Inst
-  pub code : part_code m.functions ≡ front ++ (function_code f ++ back)
+  pub code : part_code (defined_functions m) ≡ front ++ (function_code f ++ back)
   pub address_is : address ≡ 0x10000 + 48 + 4 * length front
   pub small : address < 2 ^ 30
-  pub words : image_words (program_objects m) ≡ map encoded (runtime_code address) ++ map encoded (part_code m.functions)
+  pub words : image_words (program_objects m) ≡ map encoded (runtime_code address) ++ map encoded (part_code (defined_functions m))
 
 -- the words of the image, where the name of `main` stands for an address
-words_by : (m : Module) (address : ℕ) → address_among (codes "main") (addressed_symbols 0 m.functions) ≡ address → address < 2 ^ 30 →
-    image_words (program_objects m) ≡ map encoded (runtime_code address) ++ map encoded (part_code m.functions)
+words_by : (m : Module) (address : ℕ) → address_among (codes "main") (addressed_symbols 0 (defined_functions m)) ≡ address → address < 2 ^ 30 →
+    image_words (program_objects m) ≡ map encoded (runtime_code address) ++ map encoded (part_code (defined_functions m))
 words_by m address is small =
-    let code : List Inst = part_code m.functions in
+    let code : List Inst = part_code (defined_functions m) in
     let in_runtime : List ℕ → ℕ = address_of 0x10000 runtime.symbols (globals (program_objects m)) in
     let in_part : List ℕ → ℕ = address_of part_begin (part_object m).symbols (globals (program_objects m)) in
     ap₂ (λ front back. front ++ back)
@@ -92,9 +93,9 @@ words_by m address is small =
     (append-nil (map (line_word in_part) (map (λ i. Plain i) code)) ∙ plain_words in_part code)
 
 -- the address of `main`, by the functions before it
-main_address : (m : Module) (f : Function) (front back : List Function) → IsProgram m → IsMain m f → m.functions ≡ front ++ f ∷ back →
+main_address : (m : Module) (f : Function) (front back : List Function) → IsProgram m → IsMain m f → defined_functions m ≡ front ++ f ∷ back →
     length (part_code front) ≤ 49152 →
-    address_among (codes "main") (addressed_symbols 0 m.functions) ≡ 0x10000 + 48 + 4 * length (part_code front)
+    address_among (codes "main") (addressed_symbols 0 (defined_functions m)) ≡ 0x10000 + 48 + 4 * length (part_code front)
 main_address m f front back program main is fits =
     let distinct = subst (λ functions. IsDistinct bytes_eq (map function_name functions)) is program.differ in
     ap₂ (λ name functions. address_among name (addressed_symbols 0 functions)) (sym main.named) is
@@ -103,11 +104,11 @@ main_address m f front back program main is fits =
 
 pub part_words : (m : Module) (f : Function) → IsProgram m → IsMain m f → HasMain m f
 part_words m f program main =
-    let place = around m.functions f main.among in
+    let place = around (defined_functions m) f (main_defined m f main) in
     let front : List Inst = part_code place.front in
     let back : List Inst = part_code place.back in
-    let code : part_code m.functions ≡ front ++ (function_code f ++ back) = ap part_code place.is ∙ code_around place.front place.back f in
-    let whole : length (part_code m.functions) ≡ length (front ++ (function_code f ++ back)) = ap length code in
+    let code : part_code (defined_functions m) ≡ front ++ (function_code f ++ back) = ap part_code place.is ∙ code_around place.front place.back f in
+    let whole : length (part_code (defined_functions m)) ≡ length (front ++ (function_code f ++ back)) = ap length code in
     let parts = length-append front (function_code f ++ back) in
     let all = part_fits m program in
     let fits : length front ≤ 49152 = omega arith in

@@ -1,7 +1,7 @@
 -- The text of a module of the built set resolves.
-use Rattle.std.proofs.Common.{◌≡◌, ◌+◌, ◌++◌, ◌∷◌, [], ℕ, List, Bool, true, false, cond, not, ◌&&◌, Option, Some, None, is_some, refl, ap, sym, ◌∙◌, subst, arith, codes, map, length, drop, nat_eq, zero, suc, Contains}
+use Rattle.std.proofs.Common.{◌≡◌, ◌+◌, ◌++◌, ◌∷◌, [], ℕ, List, Bool, true, false, cond, not, ◌&&◌, refl, ap, sym, ◌∙◌, subst, arith, codes, map, length, drop, nat_eq, zero, suc, Contains}
 use Rattle.std.specs.Prelude.{◌==◌, bytes_eq}
-use Rattle.std.specs.List.{flat_map, list_all, list_any, starts_with, filter, AllByRecursion as ByRecursion}
+use Rattle.std.specs.List.{flat_map, list_all, list_any, starts_with, AllByRecursion as ByRecursion}
 use Rattle.std.proofs.Math.Seq.{drop-append_seam}
 use Rattle.std.proofs.lemmas.Bool.{and_from, and_parts, ne_eqb, both_ways, and_left}
 use Rattle.std.proofs.lemmas.Cmp.{nat_list_eq_equiv}
@@ -11,23 +11,22 @@ use Rattle.std.proofs.lemmas.List.Folds.{list_all-append}
 use Rattle.std.proofs.lemmas.Map.Views.{list_any-from_Contains}
 use Rattle.std.proofs.lemmas.Grind.{flat_map-append}
 use Rattle.ir_syntax.specs.Names.{name_bytes}
-use Rattle.ir_syntax.specs.declared.block.Block.{Block}
 use Rattle.ir_syntax.specs.declared.function.Function.{Function}
-use Rattle.ir_syntax.specs.declared.function.Param.{Param}
 use Rattle.ir_syntax.specs.declared.module.Module.{Module}
 use Rattle.rv_isa.specs.Encoding.{IsInst}
 use Rattle.rv_isa.specs.Lines.{text_of_lines}
-use Rattle.rv_isa.specs.Symbol.{is_digit, is_symbol_byte}
+use Rattle.rv_isa.specs.Symbol.{is_bare, is_digit, is_symbol_byte}
 use Rattle.rv_isa.specs.Text.{instruction_line}
 use Rattle.rv_isa.specs.declared.inst.Inst.{Inst}
-use Rattle.cg_part.specs.Built.{IsBuilt, IsBuiltFunction, IsBuiltBody, is_name, is_name_byte, starts_name}
+use Rattle.cg_part.specs.Built.{IsBuilt, IsBuiltFunction, is_built_name}
 use Rattle.cg_part.specs.Code.{function_code}
-use Rattle.cg_part.specs.Resolving.{Resolves, defined_in, needed_in, after_percent, one_symbol, symbol_at, front_of, quoted_front, is_label, symbols_of, needs_of, has_body, defined_symbols}
+use Rattle.cg_part.specs.Definitions.{defined_functions}
+use Rattle.cg_part.specs.Resolving.{Resolves, defined_in, needed_in, after_percent, one_symbol, symbol_at, front_of, quoted_front, is_label, symbols_of, needs_of, defined_symbols}
 use Rattle.cg_part.specs.Text.{function_lines, head_lines, part_lines, part_text, symbol_of}
 use Rattle.cg_part.proofs.InstructionLemmas.{code_formed}
+use Rattle.cg_part.proofs.NameLemmas.{bare_bytes, bare_first, name_is_bare, name_is_symbol, name_not_reserved, name_spelled}
 use Rattle.cg_part.proofs.QuietLines.{IsQuiet, instruction_quiet}
 use Rattle.cg_part.proofs.Splitting.{stays, is_one_line, pieces-text}
-use Rattle.cg_part.proofs.TextLemmas.{name_spelled, start_in_name, start_no_digit, all_symbol_bytes, name_bytes_all}
 
 -- what a list of lines defines and needs
 pub record Holds (lines : List (List ℕ)) (symbols : List (List ℕ)) : Type 0 where
@@ -63,14 +62,14 @@ front-colon (b ∷ bytes) all =
     let parts = and_parts (is_symbol_byte b) (list_all is_symbol_byte bytes) all in
     ap (λ t. cond t (b ∷ front_of is_symbol_byte (bytes ++ 58 ∷ [])) []) parts.0 ∙ ap (λ front. b ∷ front) (front-colon bytes parts.1)
 
--- a byte that stands in no name differs from each that does
-differs : (b c : ℕ) → is_name_byte c ≡ false → is_name_byte b ≡ true → b ≡ c → ⊥
-differs b c other plain same = both_ways (is_name_byte c) other (subst (λ x. is_name_byte x ≡ true) same plain)
+-- a byte that stands in no symbol differs from each that does
+differs : (b c : ℕ) → is_symbol_byte c ≡ false → is_symbol_byte b ≡ true → b ≡ c → ⊥
+differs b c other plain same = both_ways (is_symbol_byte c) other (subst (λ x. is_symbol_byte x ≡ true) same plain)
 
-one_line_symbol : (bytes : List ℕ) → list_all is_name_byte bytes ≡ true → is_one_line bytes ≡ true
+one_line_symbol : (bytes : List ℕ) → list_all is_symbol_byte bytes ≡ true → is_one_line bytes ≡ true
 one_line_symbol [] all = refl
 one_line_symbol (b ∷ bytes) all =
-    let parts = and_parts (is_name_byte b) (list_all is_name_byte bytes) all in
+    let parts = and_parts (is_symbol_byte b) (list_all is_symbol_byte bytes) all in
     and_from (stays b) (is_one_line bytes) (ap not (ne_eqb b 10 (λ e. differs b 10 refl parts.0 e))) (one_line_symbol bytes parts.1)
 
 head_quiet_text : IsQuiet (codes "\t.text")
@@ -82,21 +81,19 @@ head_quiet_align = record { one = refl; defines = refl; needs = refl }
 head_quiet_global : (symbol : List ℕ) → is_one_line symbol ≡ true → IsQuiet (codes "\t.globl\t" ++ symbol)
 head_quiet_global symbol one = record { one = one; defines = refl; needs = refl }
 
--- what a line that begins with a plain name's first byte is not
+-- what the first byte of a bare name is not
 record Begins (b : ℕ) : Type 0 where
   tab : nat_eq 9 b ≡ false
   quote : (b == 34) ≡ false
   digit : is_digit b ≡ false
-  point : nat_eq 46 b ≡ false
 
-begins : (b : ℕ) → starts_name b ≡ true → Begins b
-begins b start =
-    let named : is_name_byte b ≡ true = start_in_name b start in
+begins : (b : ℕ) (bytes : List ℕ) → is_bare (b ∷ bytes) ≡ true → Begins b
+begins b bytes bare =
+    let first = bare_first b bytes bare in
     record {
-      tab = ne_eqb 9 b (λ e. differs b 9 refl named (sym e));
-      quote = ne_eqb b 34 (λ e. differs b 34 refl named e);
-      digit = start_no_digit b start;
-      point = ne_eqb 46 b (λ e. differs b 46 refl named (sym e));
+      tab = ne_eqb 9 b (λ e. differs b 9 refl first.0 (sym e));
+      quote = ne_eqb b 34 (λ e. differs b 34 refl first.0 e);
+      digit = first.1;
     }
 
 symbol_at-colon : (b : ℕ) (bytes : List ℕ) → Begins b → list_all is_symbol_byte (b ∷ bytes) ≡ true → symbol_at ((b ∷ bytes) ++ 58 ∷ []) ≡ b ∷ bytes
@@ -107,13 +104,12 @@ symbol_at-colon b bytes first all =
     ∙ ap (λ t. cond t [] front) first.digit
     ∙ front-colon (b ∷ bytes) all
 
-symbol_defines : (b : ℕ) (bytes : List ℕ) → Begins b → list_all is_symbol_byte (b ∷ bytes) ≡ true →
+symbol_defines : (b : ℕ) (bytes : List ℕ) → Begins b → list_all is_symbol_byte (b ∷ bytes) ≡ true → is_label (b ∷ bytes) ≡ false →
     defined_in ((b ∷ bytes) ++ 58 ∷ []) ≡ (b ∷ bytes) ∷ []
-symbol_defines b bytes first all =
+symbol_defines b bytes first all no_label =
     let symbol : List ℕ = b ∷ bytes in
     let line : List ℕ = symbol ++ 58 ∷ [] in
     let not_set : starts_with nat_eq line (codes "\t.set\t") ≡ false = and_left _ _ first.tab in
-    let no_label : is_label symbol ≡ false = and_left _ _ (and_left _ _ first.point) in
     let read : List ℕ → List ℕ → List (List ℕ) = λ s after. cond (bytes_eq after (codes ":") && not (is_label s)) (one_symbol s) [] in
     ap (λ t. cond t (one_symbol (symbol_at (drop 6 line))) (read (symbol_at line) (drop (length (symbol_at line)) line))) not_set
     ∙ ap (λ s. read s (drop (length s) line)) (symbol_at-colon b bytes first all)
@@ -132,36 +128,34 @@ symbol_needs b rest first =
     ∙ ap in_lines no_directive
     ∙ ap in_code no_code
 
-symbol_line : (name : List ℕ) → is_name name ≡ true → Holds ((name ++ codes ":") ∷ []) (name ∷ [])
-symbol_line [] named = absurd (cc)
-symbol_line (b ∷ bytes) named =
-    let all : list_all is_name_byte (b ∷ bytes) ≡ true = name_bytes_all b bytes named in
-    let first : Begins b = begins b (and_parts (starts_name b) (list_all is_name_byte bytes) named).0 in
+symbol_line : (name : List ℕ) → is_built_name name ≡ true → Holds ((name ++ codes ":") ∷ []) (name ∷ [])
+symbol_line [] built = absurd (cc)
+symbol_line (b ∷ bytes) built =
+    let bare : is_bare (b ∷ bytes) ≡ true = name_is_bare (b ∷ bytes) built in
+    let all : list_all is_symbol_byte (b ∷ bytes) ≡ true = bare_bytes (b ∷ bytes) bare in
+    let first : Begins b = begins b bytes bare in
     record {
       one = and_from (is_one_line ((b ∷ bytes) ++ codes ":")) true
           (list_all-append stays (b ∷ bytes) (codes ":") ∙ and_from (is_one_line (b ∷ bytes)) true (one_line_symbol (b ∷ bytes) all) refl) refl;
-      defines = ap (λ symbols. symbols ++ []) (symbol_defines b bytes first (all_symbol_bytes (b ∷ bytes) all));
+      defines = ap (λ symbols. symbols ++ [])
+          (symbol_defines b bytes first all (name_is_symbol (b ∷ bytes) (name_not_reserved (b ∷ bytes) built)));
       needs = ap (λ symbols. symbols ++ []) (symbol_needs b (bytes ++ codes ":") first);
     }
 
-one_line_name : (name : List ℕ) → is_name name ≡ true → is_one_line name ≡ true
-one_line_name [] named = refl
-one_line_name (b ∷ bytes) named = one_line_symbol (b ∷ bytes) (name_bytes_all b bytes named)
-
 -- the lines of a function whose symbol is its name
-named_holds : (name : List ℕ) (code : List Inst) → is_name name ≡ true → ByRecursion IsInst code →
+named_holds : (name : List ℕ) (code : List Inst) → is_built_name name ≡ true → ByRecursion IsInst code →
     Holds (head_lines name ++ map instruction_line code) (name ∷ [])
-named_holds name code named formed =
+named_holds name code built formed =
     holds-quiet _ _ _ head_quiet_text
-    (holds-quiet _ _ _ (head_quiet_global name (one_line_name name named))
+    (holds-quiet _ _ _ (head_quiet_global name (one_line_symbol name (bare_bytes name (name_is_bare name built))))
     (holds-quiet _ _ _ head_quiet_align
-    (holds-append ((name ++ codes ":") ∷ []) (map instruction_line code) (name ∷ []) [] (symbol_line name named) (code_holds code formed))))
+    (holds-append ((name ++ codes ":") ∷ []) (map instruction_line code) (name ∷ []) [] (symbol_line name built) (code_holds code formed))))
 
 function_holds : (f : Function) → IsBuiltFunction f → Holds (function_lines f) (symbol_of f ∷ [])
 unfolding function_lines
 function_holds f built =
     subst (λ symbol. Holds (head_lines symbol ++ map instruction_line (function_code f)) (symbol ∷ []))
-    (name_spelled (name_bytes f.name) built.name)
+    (name_spelled (name_bytes f.name) (name_is_bare (name_bytes f.name) built.name))
     (named_holds (name_bytes f.name) (function_code f) built.name (recursion_from_All IsInst (function_code f) (code_formed f built)))
 
 part_holds : (functions : List Function) → ByRecursion IsBuiltFunction functions → Holds (part_lines functions) (map symbol_of functions)
@@ -179,17 +173,6 @@ text_needs : (lines symbols : List (List ℕ)) → Holds lines symbols → needs
 text_needs lines symbols holds =
     ap (flat_map needed_in) (pieces-text lines holds.one) ∙ flat_map-append needed_in lines ([] ∷ [])
     ∙ ap (λ all. all ++ []) holds.needs
-
--- functions of the built set have bodies
-body_is_some : (params : List Param) (blocks : Option (List Block)) → IsBuiltBody params blocks → is_some blocks ≡ true
-body_is_some params None built = absurd built
-body_is_some params (Some blocks) built = refl
-
-all_defined : (functions : List Function) → ByRecursion IsBuiltFunction functions → filter has_body functions ≡ functions
-all_defined [] built = refl
-all_defined (f ∷ functions) built =
-    ap (λ t. cond t (f ∷ filter has_body functions) (filter has_body functions)) (body_is_some f.params f.blocks built.0.body)
-    ∙ ap (λ more. f ∷ more) (all_defined functions built.1)
 
 -- the one text of a list
 one_text : (one text : List ℕ) → Contains (one ∷ []) text → text ≡ one
@@ -210,8 +193,7 @@ resolves_by m text symbols needs = record {
 pub text_resolves : (m : Module) → IsBuilt m → Resolves m (part_text m ∷ [])
 unfolding part_text
 text_resolves m built =
-    let each = recursion_from_All IsBuiltFunction m.functions built.functions in
-    let holds = part_holds m.functions each in
-    resolves_by m (part_text m)
-    (text_symbols (part_lines m.functions) (map symbol_of m.functions) holds ∙ ap (map symbol_of) (sym (all_defined m.functions each)))
-    (text_needs (part_lines m.functions) (map symbol_of m.functions) holds)
+    let functions : List Function = defined_functions m in
+    let holds = part_holds functions (recursion_from_All IsBuiltFunction functions built.functions) in
+    resolves_by m (part_text m) (text_symbols (part_lines functions) (map symbol_of functions) holds)
+    (text_needs (part_lines functions) (map symbol_of functions) holds)

@@ -1,7 +1,7 @@
 -- Modules that are accepted today, what the lines of such a module's text say, the object that it assembles
 -- to, and the program that is linked from it.
-use Rattle.std.specs.Prelude.{◌≢◌, ◌≤◌, ◌+◌, ◌*◌, ℕ, pos, true, List, [], ◌∷◌, ◌++◌, length, map, flat_map, codes}
-use Rattle.std.specs.List.{All, IsDistinct}
+use Rattle.std.specs.Prelude.{◌≤◌, ◌+◌, ◌*◌, ℕ, pos, true, List, [], ◌∷◌, ◌++◌, length, map, flat_map}
+use Rattle.std.specs.List.{IsDistinct}
 use Rattle.std.specs.Str.{bytes_eq}
 use Rattle.asm_read.specs.declared.form.Form.{Form}
 use Rattle.asm_read.specs.declared.form.Form.TheVariants as form
@@ -21,18 +21,12 @@ use Rattle.cg_part.specs.Built.{IsBuilt}
 use Rattle.cg_part.specs.Code.{addi, return, function_code}
 use Rattle.cg_part.specs.Definitions.{defined_functions}
 
--- a name that neither the start of a program nor the functions of its host have
-pub record IsFree (name : List ℕ) : Type 0 where
-  pub not_start : name ≢ codes "_start"
-  pub not_host : (rest : List ℕ) → name ≢ codes "__host_" ++ rest
-
 abbrev pub function_name : Function → List ℕ
 function_name f = name_bytes f.name
 
--- a module of the built set that defines at most 4,096 functions, whose names are free and differ
+-- a module of the built set that defines at most 4,096 functions, whose names differ
 pub record IsProgram (m : Module) : Type 0 where
   pub built : IsBuilt m
-  pub free : All (λ f. IsFree (function_name f)) (defined_functions m)
   pub differ : IsDistinct bytes_eq (map function_name (defined_functions m))
   pub few : length (defined_functions m) ≤ 4096
 
@@ -65,8 +59,11 @@ part_symbols before (f ∷ functions) =
 
 -- the object of a module: its code, a global symbol for each function, and nothing needed from elsewhere
 abbrev pub part_object : Module → Object
-part_object m =
-    record { words = map (λ i. Plain i) (part_code (defined_functions m)); symbols = part_symbols 0 (defined_functions m); needs = [] }
+part_object m = record {
+  words = map (λ i. Plain i) (part_code (defined_functions m));
+  symbols = part_symbols 0 (defined_functions m);
+  needs = [];
+}
 
 -- the objects of a program: the runtime, and that of its module
 abbrev pub program_objects : Module → List Object

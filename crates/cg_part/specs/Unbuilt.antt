@@ -1,5 +1,5 @@
 -- What of a module is not built today, by its lines.
-use Rattle.std.specs.Prelude.{ℕ, ◌+◌, ◌&&◌, ◌||◌, ◌==◌, ◌-◌, Bool, true, false, not, nat_le, nat_lt, is_some, min, Option, None, Some, List, [], ◌∷◌, ◌++◌, length, map, if◌then◌else◌}
+use Rattle.std.specs.Prelude.{ℕ, ◌&&◌, ◌||◌, ◌==◌, Bool, true, false, not, nat_le, nat_lt, is_some, min, Option, None, Some, List, [], ◌∷◌, ◌++◌, length, map, if◌then◌else◌}
 use Rattle.std.specs.List.{flat_map, list_all, list_any, reduce}
 use Rattle.ir_check.specs.Repeated.{line_if, repeated_lines}
 use Rattle.ir_check.specs.Reserved.{is_label_name}

@@ -92,7 +92,7 @@ fn push_parameter(code: &mut Vec<Inst>, params: &[Param], name: &Name) -> Result
 }
 
 /// The place of the parameter of a name.
-fn place_among(name: &Name, params: &[Param]) -> Option<usize>
+pub fn place_among(name: &Name, params: &[Param]) -> Option<usize>
     ensures { result ≡ place_of name.now params.now }
 {
     params.iter().position(|param| is_same(&param.name, name))

@@ -1,21 +1,23 @@
 //! The text of the part.
-ghost use Rattle.std.specs.Prelude.{◌≡◌, ◌++◌, ◌≤◌, ◌∷◌, [], OnOk, IfOk, All, flat_map, map, IsTrue};
+ghost use Rattle.std.specs.Prelude.{◌≡◌, ◌++◌, ◌∷◌, [], OnOk, IfOk, All, map, IsTrue};
+ghost use Rattle.std.specs.List.{filter};
 ghost use Rattle.ir_syntax.specs.Names.{name_bytes};
 ghost use Rattle.rv_isa.specs.Encoding.{IsInst};
 ghost use Rattle.rv_isa.specs.Lines.{text_of_lines};
-ghost use Rattle.rv_isa.specs.Symbol.{is_bare};
 ghost use Rattle.rv_isa.specs.Text.{instruction_line};
-ghost use Rattle.cg_part.specs.Built.{IsBuilt, IsBuiltFunction, is_name};
+ghost use Rattle.cg_part.specs.Built.{IsBuilt, IsBuiltFunction};
+ghost use Rattle.cg_part.specs.Definitions.{has_body};
 ghost use Rattle.cg_part.specs.Resolving.{Resolves};
 ghost use Rattle.cg_part.specs.Text.{part_text, function_lines, head_lines, part_lines};
 
 use crate::code::code_of;
 use crate::print::{push_instruction, push_text};
-use ir_syntax::{Function, Module, Name};
+use crate::symbol::bytes_of;
+use ir_syntax::{Function, Module};
 use rv_isa::Inst;
 use std::alloc::{AllocError, Global};
 
-/// The text of the one part: the functions of a module of the built set, in its order.
+/// The text of the one part: the functions that a module of the built set defines, in its order.
 pub fn text_of(alloc: Global, m: &Module) -> Result<Vec<u8>, AllocError>
     requires { IsBuilt m.now }
     ensures text { IfOk result (λ text. text.items ≡ part_text m.now) }
@@ -32,13 +34,27 @@ fn push_functions(
     out: &mut Vec<u8>,
     functions: &[Function],
 ) -> Result<(), AllocError>
-    requires { All IsBuiltFunction functions.now }
-    ensures { OnOk result (out.new.items ≡ out.old.items ++ text_of_lines (part_lines functions.now)) }
+    requires { All IsBuiltFunction (filter has_body functions.now) }
+    ensures { OnOk result (out.new.items
+        ≡ out.old.items ++ text_of_lines (part_lines (filter has_body functions.now))) }
 {
     for function in functions {
-        push_function(alloc, out, function)?;
+        push_definition(alloc, out, function)?;
     }
     Ok(())
+}
+
+/// Writes a function that is defined; one that is declared has no text.
+fn push_definition(alloc: Global, out: &mut Vec<u8>, function: &Function) -> Result<(), AllocError>
+    requires { IsTrue (has_body function.now) → IsBuiltFunction function.now }
+    ensures { OnOk result (out.new.items
+        ≡ out.old.items ++ text_of_lines (part_lines (filter has_body (function.now ∷ [])))) }
+{
+    if function.blocks.is_some() {
+        push_function(alloc, out, function)
+    } else {
+        Ok(())
+    }
 }
 
 fn push_function(alloc: Global, out: &mut Vec<u8>, function: &Function) -> Result<(), AllocError>
@@ -49,15 +65,6 @@ fn push_function(alloc: Global, out: &mut Vec<u8>, function: &Function) -> Resul
     push_head(out, bytes_of(&function.name))?;
     push_code(out, &code)?;
     Ok(())
-}
-
-fn bytes_of(name: &Name) -> &[u8]
-    ensures { result.now ≡ name_bytes name.now }
-{
-    match name {
-        Name::Named(identifier) => identifier.as_bytes(),
-        Name::Unnamed(_) | Name::Implicit => &[],
-    }
 }
 
 /// Writes the lines before a function's code; the symbol stands without quotes.

@@ -12,7 +12,7 @@ use Rattle.cg_part.specs.Program.{IsProgram}
 use Rattle.cg_part.proofs.AssemblingLemmas.{part_assembles}
 use Rattle.cg_part.proofs.LinkingNames.{part_differs, part_resolves}
 use Rattle.cg_part.proofs.ResolvingLemmas.{text_resolves}
-use Rattle.cg_part.proofs.UnbuiltLemmas.{built_program}
+use Rattle.cg_part.proofs.UnbuiltLemmas.{is_program}
 use Rattle.cg_part.specs.Unbuilt.{first_unbuilt}
 use Rattle.ir_read.proofs.OneAnswer.{reads_unique}
 use Rattle.ir_syntax.specs.declared.function.Function.{Function}
@@ -149,7 +149,7 @@ module _ (words : List (List ℕ)) (left left' : Option (List ℕ)) (faults faul
     compiled_by read_failed compiling reason is results = absurd (cc)
     compiled_by (refuses refusal) compiling reason is results = absurd (cc)
     compiled_by (compiles m) compiling (other, is_other, asks, takes) is results =
-        let program : IsProgram m = built_program m takes.accepted.built in
+        let program : IsProgram m = is_program m takes.accepted.built in
         record {
           compiled = m;
           takes = takes;
@@ -168,7 +168,7 @@ module _ (words : List (List ℕ)) (left left' : Option (List ℕ)) (faults faul
         Appends err err' (err_due (runs command m)) → Ran command left left' out out' err err'
     shown_by m takes has results errors =
         let main = main_is m has in
-        let program : IsProgram m = built_program m takes.accepted.built in
+        let program : IsProgram m = is_program m takes.accepted.built in
         record {
           compiled = m;
           takes = takes;

@@ -1,0 +1,69 @@
+-- The names of definitions: they stand without quotes, and are no label's and none of the runtime's.
+use Rattle.std.proofs.Common.{◌≡◌, ◌++◌, ◌∷◌, [], ℕ, List, Bool, true, false, cond, not, ◌&&◌, ◌||◌, refl, ap, sym, subst, codes, drop}
+use Rattle.std.specs.Prelude.{◌==◌, bytes_eq}
+use Rattle.std.specs.List.{flat_map, list_all}
+use Rattle.std.proofs.lemmas.Bool.{and_from, and_parts, both_ways, false_from_ne_true, not-true, or_parts}
+use Rattle.asm_read.specs.Forms.{IsLabel, is_number}
+use Rattle.ir_check.specs.Reserved.{begins_digit, begins_with, is_label_name, is_reserved}
+use Rattle.rv_isa.specs.Symbol.{escaped, is_bare, is_digit, is_symbol_byte, spelled}
+use Rattle.cg_part.specs.Built.{is_built_name}
+use Rattle.cg_part.specs.Resolving.{front_of, is_label, is_number_pair}
+
+pub name_is_bare : (name : List ℕ) → is_built_name name ≡ true → is_bare name ≡ true
+name_is_bare name built = (and_parts (is_bare name) (not (is_reserved name)) built).0
+
+pub name_not_reserved : (name : List ℕ) → is_built_name name ≡ true → is_reserved name ≡ false
+name_not_reserved name built = not-true (is_reserved name) (and_parts (is_bare name) (not (is_reserved name)) built).1
+
+-- a bare name stands as it is
+pub name_spelled : (name : List ℕ) → is_bare name ≡ true → name ≡ spelled name
+name_spelled name bare = ap (λ b. cond b name (34 ∷ (flat_map escaped name ++ 34 ∷ []))) (sym bare)
+
+pub bare_first : (b : ℕ) (bytes : List ℕ) → is_bare (b ∷ bytes) ≡ true → (is_symbol_byte b ≡ true) × (is_digit b ≡ false)
+bare_first b bytes bare =
+    let first = and_parts (is_symbol_byte b) (not (is_digit b)) (and_parts (is_symbol_byte b && not (is_digit b)) (list_all is_symbol_byte bytes) bare).0 in
+    (first.0, not-true (is_digit b) first.1)
+
+-- all bytes of a bare name may stand in a symbol
+pub bare_bytes : (name : List ℕ) → is_bare name ≡ true → list_all is_symbol_byte name ≡ true
+bare_bytes [] bare = refl
+bare_bytes (b ∷ bytes) bare =
+    and_from (is_symbol_byte b) (list_all is_symbol_byte bytes) (bare_first b bytes bare).0
+    (and_parts (is_symbol_byte b && not (is_digit b)) (list_all is_symbol_byte bytes) bare).1
+
+-- a name that is not reserved differs from each that is
+pub free_differs : (name other : List ℕ) → is_reserved name ≡ false → is_reserved other ≡ true → name ≡ other → ⊥
+free_differs name other free taken same = both_ways (is_reserved other) (subst (λ n. is_reserved n ≡ false) same free) taken
+
+-- nor does it begin as the labels of blocks do
+free_of_labels : (name : List ℕ) → is_reserved name ≡ false → is_label_name name ≡ false
+free_of_labels name free =
+    (or_parts (bytes_eq name (codes "_start") || begins_with (codes "__host_") name || begins_with (codes "llvm.") name) (is_label_name name) free).1
+
+number_begins : (digits rest : List ℕ) → is_number digits ≡ true → begins_digit (digits ++ rest) ≡ true
+number_begins [] rest number = absurd (cc)
+number_begins (d ∷ []) rest number = number
+number_begins (d ∷ e ∷ more) rest number =
+    (and_parts (is_digit d) (not (d == 48)) (and_parts (is_digit d && not (d == 48)) (list_all is_digit (e ∷ more)) number).0).0
+
+-- so the assembler reads it as a symbol
+pub name_no_label : (name : List ℕ) → is_reserved name ≡ false → IsLabel name → ⊥
+name_no_label name free (f, b, is, number, last) =
+    both_ways (is_label_name name) (free_of_labels name free)
+    (subst (λ n. is_label_name n ≡ true) (sym is) (number_begins f (95 ∷ b) number))
+
+digits_begin : (bytes : List ℕ) → is_number (front_of is_digit bytes) ≡ true → begins_digit bytes ≡ true
+digits_begin [] number = number
+digits_begin (b ∷ bytes) number = by_test (is_digit b) number
+  where
+    by_test : (t : Bool) → is_number (cond t (b ∷ front_of is_digit bytes) []) ≡ true → t ≡ true
+    by_test true number = refl
+    by_test false number = number
+
+-- and its line defines a symbol
+pub name_is_symbol : (name : List ℕ) → is_reserved name ≡ false → is_label name ≡ false
+name_is_symbol name free = false_from_ne_true (is_label name) (λ label.
+    (let parts = and_parts (begins_with (codes ".LBB") name) (is_number_pair (drop 4 name)) label in
+    let digits : is_number (front_of is_digit (drop 4 name)) ≡ true = (and_parts _ _ (and_parts _ _ parts.1).0).0 in
+    both_ways (is_label_name name) (free_of_labels name free)
+    (and_from (begins_with (codes ".LBB") name) (begins_digit (drop 4 name)) parts.0 (digits_begin (drop 4 name) digits))))

@@ -1,0 +1,69 @@
+//! What of a module is not built.
+ghost use Rattle.std.specs.Prelude.{◌≡◌, ◌++◌, None, [], IfOk, OnOk, min, if◌then◌else◌};
+ghost use Rattle.std.specs.List.{reduce};
+ghost use Rattle.cg_part.specs.Program.{IsProgram};
+ghost use Rattle.cg_part.specs.Unbuilt.{first_unbuilt, has_too_many, item_lines, unbuilt_lines};
+
+mod body;
+mod count;
+mod head;
+mod lines;
+
+use count::has_too_many;
+use ir_check::{repeated_lines, unsized_lines};
+use ir_syntax::Module;
+use lines::{push_aliases, push_functions, push_types, push_unbuilt, push_variables};
+use std::alloc::{AllocError, Global};
+
+/// The first line, from 1, of what is not built yet; none exactly where all is built.
+///
+/// Variables and aliases are not built, nor functions other than those of `program_of`, declared functions with types
+/// other than scalars, types without a size, and names that are defined again. Where more than 4,096 functions are
+/// defined, or one has more than 64 parameters, nothing is built.
+pub fn unbuilt(alloc: Global, m: &Module) -> Result<Option<u32>, AllocError>
+    ensures line { IfOk result (λ line. line ≡ first_unbuilt m.now) }
+    ensures program { IfOk result (λ line. line ≡ None → IsProgram m.now) }
+{
+    let lines = unbuilt_lines(alloc, m)?;
+    Ok(least(&lines))
+}
+
+fn least(lines: &[u32]) -> Option<u32>
+    ensures { result ≡ reduce min lines.now }
+{
+    lines.iter().copied().min()
+}
+
+fn unbuilt_lines(alloc: Global, m: &Module) -> Result<Vec<u32>, AllocError>
+    ensures { IfOk result (λ lines. lines.items ≡ unbuilt_lines m.now) }
+{
+    let mut lines = Vec::new(alloc);
+    push_variables(&mut lines, m.globals.as_slice())?;
+    push_aliases(&mut lines, m.aliases.as_slice())?;
+    push_unbuilt(&mut lines, m.functions.as_slice())?;
+    lines.extend_from_slice(&unsized_lines(alloc, &m.types)?)?;
+    lines.extend_from_slice(&repeated_lines(alloc, m)?)?;
+    push_too_many(&mut lines, m)?;
+    Ok(lines)
+}
+
+/// Adds the lines of all items of a module that has too many functions or parameters.
+fn push_too_many(lines: &mut Vec<u32>, m: &Module) -> Result<(), AllocError>
+    ensures { OnOk result (lines.new.items
+        ≡ lines.old.items ++ (if has_too_many m.now then item_lines m.now else [])) }
+{
+    if has_too_many(m) {
+        push_items(lines, m)
+    } else {
+        Ok(())
+    }
+}
+
+fn push_items(lines: &mut Vec<u32>, m: &Module) -> Result<(), AllocError>
+    ensures { OnOk result (lines.new.items ≡ lines.old.items ++ item_lines m.now) }
+{
+    push_types(lines, m.types.as_slice())?;
+    push_variables(lines, m.globals.as_slice())?;
+    push_functions(lines, m.functions.as_slice())?;
+    push_aliases(lines, m.aliases.as_slice())
+}
