@@ -13,7 +13,7 @@ use Rattle.cg_part.specs.Built.{IsBuiltFunction, is_built_name}
 use Rattle.cg_part.specs.Code.{function_code}
 use Rattle.cg_part.specs.Program.{code_forms, function_forms, function_name, head_forms, part_forms}
 use Rattle.cg_part.proofs.InstructionLemmas.{IsOfUsed, code_holds}
-use Rattle.cg_part.proofs.NameLemmas.{bare_bytes, name_is_bare, name_no_label, name_not_reserved}
+use Rattle.cg_part.proofs.NameLemmas.{bare_bytes, name_is_bare, no_label_read, name_not_reserved}
 
 used_read : IsOfUsed IsRead
 used_read = record {
@@ -31,8 +31,8 @@ small_bytes (b ∷ bytes) all =
     let parts = and_parts (is_symbol_byte b) (list_all is_symbol_byte bytes) all in
     All-cons (λ x. x < 256) b bytes (symbol_byte_small b parts.0) (small_bytes bytes parts.1)
 
-pub name_is_read : (name : List ℕ) → is_built_name name ≡ true → IsSymbol name
-name_is_read name built = (small_bytes name (bare_bytes name (name_is_bare name built)), name_no_label name (name_not_reserved name built))
+pub name_is_symbol : (name : List ℕ) → is_built_name name ≡ true → IsSymbol name
+name_is_symbol name built = (small_bytes name (bare_bytes name (name_is_bare name built)), no_label_read name (name_not_reserved name built))
 
 head_allowed : (name : List ℕ) → IsSymbol name → All IsForm (head_forms name)
 head_allowed name symbol =
@@ -47,7 +47,7 @@ code_allowed code read = All-map IsForm (λ i. Code i) code read
 function_allowed : (f : Function) → IsBuiltFunction f → All IsForm (function_forms f)
 function_allowed f built =
     All-append IsForm (head_forms (function_name f)) (code_forms (function_code f))
-    (head_allowed (function_name f) (name_is_read (function_name f) built.name))
+    (head_allowed (function_name f) (name_is_symbol (function_name f) built.name))
     (code_allowed (function_code f) (code_holds IsRead used_read f built))
 
 pub part_allowed : (functions : List Function) → ByRecursion IsBuiltFunction functions → All IsForm (part_forms functions)

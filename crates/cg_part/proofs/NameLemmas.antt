@@ -46,9 +46,9 @@ number_begins (d ∷ []) rest number = number
 number_begins (d ∷ e ∷ more) rest number =
     (and_parts (is_digit d) (not (d == 48)) (and_parts (is_digit d && not (d == 48)) (list_all is_digit (e ∷ more)) number).0).0
 
--- so the assembler reads it as a symbol
-pub name_no_label : (name : List ℕ) → is_reserved name ≡ false → IsLabel name → ⊥
-name_no_label name free (f, b, is, number, last) =
+-- so the assembler reads it as a symbol,
+pub no_label_read : (name : List ℕ) → is_reserved name ≡ false → IsLabel name → ⊥
+no_label_read name free (f, b, is, number, last) =
     both_ways (is_label_name name) (free_of_labels name free)
     (subst (λ n. is_label_name n ≡ true) (sym is) (number_begins f (95 ∷ b) number))
 
@@ -60,9 +60,9 @@ digits_begin (b ∷ bytes) number = by_test (is_digit b) number
     by_test true number = refl
     by_test false number = number
 
--- and its line defines a symbol
-pub name_is_symbol : (name : List ℕ) → is_reserved name ≡ false → is_label name ≡ false
-name_is_symbol name free = false_from_ne_true (is_label name) (λ label.
+-- and a line that begins with it defines a symbol
+pub no_label_in_line : (name : List ℕ) → is_reserved name ≡ false → is_label name ≡ false
+no_label_in_line name free = false_from_ne_true (is_label name) (λ label.
     (let parts = and_parts (begins_with (codes ".LBB") name) (is_number_pair (drop 4 name)) label in
     let digits : is_number (front_of is_digit (drop 4 name)) ≡ true = (and_parts _ _ (and_parts _ _ parts.1).0).0 in
     both_ways (is_label_name name) (free_of_labels name free)

@@ -24,7 +24,7 @@ use Rattle.cg_part.specs.Definitions.{defined_functions}
 use Rattle.cg_part.specs.Resolving.{Resolves, defined_in, needed_in, after_percent, one_symbol, symbol_at, front_of, quoted_front, is_label, symbols_of, needs_of, defined_symbols}
 use Rattle.cg_part.specs.Text.{function_lines, head_lines, part_lines, part_text, symbol_of}
 use Rattle.cg_part.proofs.InstructionLemmas.{code_formed}
-use Rattle.cg_part.proofs.NameLemmas.{bare_bytes, bare_first, name_is_bare, name_is_symbol, name_not_reserved, name_spelled}
+use Rattle.cg_part.proofs.NameLemmas.{bare_bytes, bare_first, name_is_bare, no_label_in_line, name_not_reserved, name_spelled}
 use Rattle.cg_part.proofs.QuietLines.{IsQuiet, instruction_quiet}
 use Rattle.cg_part.proofs.Splitting.{stays, is_one_line, pieces-text}
 
@@ -138,7 +138,7 @@ symbol_line (b ∷ bytes) built =
       one = and_from (is_one_line ((b ∷ bytes) ++ codes ":")) true
           (list_all-append stays (b ∷ bytes) (codes ":") ∙ and_from (is_one_line (b ∷ bytes)) true (one_line_symbol (b ∷ bytes) all) refl) refl;
       defines = ap (λ symbols. symbols ++ [])
-          (symbol_defines b bytes first all (name_is_symbol (b ∷ bytes) (name_not_reserved (b ∷ bytes) built)));
+          (symbol_defines b bytes first all (no_label_in_line (b ∷ bytes) (name_not_reserved (b ∷ bytes) built)));
       needs = ap (λ symbols. symbols ++ []) (symbol_needs b (bytes ++ codes ":") first);
     }
 

@@ -17,9 +17,9 @@ use std::alloc::{AllocError, Global};
 
 /// The first line, from 1, of what is not built yet; none exactly where all is built.
 ///
-/// Variables and aliases are not built, nor functions other than those of `program_of`, declared functions with types
-/// other than scalars, types without a size, and names that are defined again. Where more than 4,096 functions are
-/// defined, or one has more than 64 parameters, nothing is built.
+/// Not built are variables and aliases; functions other than those that `program_of` takes; declared functions of types
+/// other than scalars; types without a size; and names that are defined a second time. Where more than 4,096 functions
+/// are defined, or one has more than 64 parameters, nothing is built.
 pub fn unbuilt(alloc: Global, m: &Module) -> Result<Option<u32>, AllocError>
     ensures line { IfOk result (λ line. line ≡ first_unbuilt m.now) }
     ensures program { IfOk result (λ line. line ≡ None → IsProgram m.now) }

@@ -1,4 +1,4 @@
-//! The text of a part: what assembly a module's functions become.
+//! The text of a part: what assembly a module's functions become, and what of a module is not built.
 #![tactic(auto)]
 
 mod built;
