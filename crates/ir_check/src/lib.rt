@@ -9,6 +9,8 @@ mod names;
 mod repeated;
 mod reserved;
 mod signatures;
+#[cfg(test)]
+mod repeated_tests;
 mod sized;
 mod table;
 
