@@ -1,3 +1,5 @@
+pub mod Begun
+pub mod BlockParts
 pub mod BlockStarts
 pub mod Ends
 pub mod EntityLaws
@@ -6,5 +8,8 @@ pub mod HeadLaws
 pub mod InitialiserLaws
 pub mod Kept
 pub mod Naming
+pub mod Placing
 pub mod Settled
+pub mod Unended
 pub mod VariableLaws
+pub mod Walks
