@@ -18,7 +18,7 @@ use Rattle.ir_body.proofs.AttributeLaws.{an_attribute_law, attachment_law, attri
 use Rattle.ir_body.proofs.BlockLaws.{blocks_law}
 use Rattle.ir_body.proofs.TypeLaws.{local_names_law, result_types_law, types_law}
 use Rattle.ir_body.proofs.ValueLaws.{global_uses_law}
-use Rattle.ir_read.specs.Functions.{block_lists, bodies, body_forms, bracketed, declaration_forms, declaration_of, declarations, declared_end_forms, declared_ends, declared_name_forms, declared_names, declared_signatures, defined_end_forms, defined_ends, defined_name_forms, defined_names, defined_signatures, definition_forms, definition_of, definitions, metadata_param_forms, metadata_params, param_forms, param_name_forms, param_names, param_of, params, params_in, signature_forms}
+use Rattle.ir_read.specs.Functions.{block_lists, bracketed, closed_block_forms, closed_blocks, declaration_forms, declaration_of, declarations, declared_end_forms, declared_ends, declared_name_forms, declared_names, declared_signatures, defined_end_forms, defined_ends, defined_name_forms, defined_names, defined_signatures, definition_forms, definition_of, definitions, metadata_param_forms, metadata_params, opening_forms, openings, param_forms, param_name_forms, param_names, param_of, params, params_in, signature_forms}
 use Rattle.ir_read.proofs.HeadLaws.{linkage_law, visibility_law}
 
 pub param_names_law : Lawful param_names
@@ -92,9 +92,15 @@ pub block_lists_law : Lawful block_lists
 block_lists_law =
     made_lawful (λ (z : Block × List Block). z.0 ∷ z.1) _ (seq_lawful _ _ (blocks_law true) (each_lawful _ (blocks_law false) refl refl) refl)
 
-pub bodies_law : Lawful bodies
-unfolding body_forms
-bodies_law = within_lawful _ _ _ _ (before_law class.OpenCurly _ refl refl (after_law _ class.CloseCurly refl refl block_lists_law refl)) refl refl refl
+pub closed_blocks_law : Lawful closed_blocks
+unfolding closed_block_forms
+closed_blocks_law = within_lawful _ _ _ _ (after_law _ class.CloseCurly refl refl block_lists_law refl) refl refl refl
+
+pub openings_law : Lawful openings
+unfolding opening_forms
+openings_law =
+    within_lawful _ _ _ _ (lined_lawful _ (before_law class.Define _ refl refl (seq_lawful _ _ linkage_law
+    (after_law _ class.OpenCurly refl refl (ending_lawful _ _ defined_signatures_law (dropped_lawful _ defined_ends_law refl refl) refl) refl) refl)) refl) refl refl refl
 
 pub declarations_law : Lawful declarations
 unfolding declaration_forms
@@ -105,6 +111,4 @@ declarations_law =
 
 pub definitions_law : Lawful definitions
 unfolding definition_forms
-definitions_law =
-    within_lawful _ _ _ _ (made_lawful definition_of _ (lined_lawful _ (before_law class.Define _ refl refl
-    (seq_lawful _ _ linkage_law (seq_lawful _ _ (ending_lawful _ _ defined_signatures_law (dropped_lawful _ defined_ends_law refl refl) refl) bodies_law refl) refl)) refl)) refl refl refl
+definitions_law = within_lawful _ _ _ _ (made_lawful definition_of _ (seq_lawful _ _ openings_law closed_blocks_law refl)) refl refl refl

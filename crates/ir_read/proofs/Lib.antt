@@ -1,3 +1,5 @@
+pub mod Begun
+pub mod BlockParts
 pub mod BlockStarts
 pub mod Ends
 pub mod EntityLaws
@@ -7,5 +9,8 @@ pub mod InitialiserLaws
 pub mod Kept
 pub mod Naming
 pub mod OneAnswer
+pub mod Placing
 pub mod Settled
+pub mod Unended
 pub mod VariableLaws
+pub mod Walks

@@ -15,12 +15,13 @@ use Rattle.ir_words.specs.declared.class.Class.TheVariants as class
 use Rattle.ir_rules.specs.Leaves.{ending, leading, lined, means}
 use Rattle.ir_rules.specs.Rules.{Rule, ◌▷◌, ◌◁◌, commas, dropped, each, either, made, option, seq, within, word}
 use Rattle.ir_body.specs.Attributes.{an_attribute, attachment, attributes}
-use Rattle.ir_body.specs.Blocks.{blocks}
+use Rattle.ir_body.specs.Blocks.{block_starts, blocks}
 use Rattle.ir_body.specs.Types.{local_names, result_types, types}
 use Rattle.ir_body.specs.Values.{global_uses, global_uses_in}
 use Rattle.ir_read.specs.Heads.{linkage, mark_words, visibility}
 use Rattle.ir_names.specs.declared.entity.Entity.{Entity}
 use Rattle.ir_names.specs.declared.entity.Entity.TheVariants as entity
+use Rattle.ir_read.specs.declared.prototype.Opening.{Opening}
 use Rattle.ir_read.specs.declared.prototype.Prototype.{Prototype}
 
 abbrev pub name_of_param : Option (ℕ × Name) → Name
@@ -134,12 +135,12 @@ defined_ends = within (class.Meta ∷ class.Attribute ∷ class.Align ∷ class.
 abbrev pub block_lists : Rule (List Block)
 block_lists = made (λ (z : Block × List Block). z.0 ∷ z.1) (seq (blocks true) (each (blocks false)))
 
--- { first block* }
-unfoldable pub body_forms : Rule (List Block)
-body_forms = class.OpenCurly ▷ block_lists ◁ class.CloseCurly
+-- first block* }
+unfoldable pub closed_block_forms : Rule (List Block)
+closed_block_forms = block_lists ◁ class.CloseCurly
 
-abbrev pub bodies : Rule (List Block)
-bodies = within (class.OpenCurly ∷ []) [] false body_forms
+abbrev pub closed_blocks : Rule (List Block)
+closed_blocks = within block_starts [] false closed_block_forms
 
 abbrev pub function_of : ℕ → Linkage → Signature → Option (List Block) → Function
 function_of line linkage s blocks = record {
@@ -167,13 +168,27 @@ suffix_goes = class.OpenRound ∷ class.Equal ∷ class.Attribute ∷ class.Alig
 abbrev pub declarations : Rule (Option Entity)
 declarations = within (class.Declare ∷ []) suffix_goes false declaration_forms
 
-abbrev pub definition_of : ℕ × (Linkage × (Signature × List Block)) → Option Entity
-definition_of z = Some (entity.Function (function_of z.0 z.1.0 z.1.1.0 (Some z.1.1.1)))
+-- what a definition says before its blocks, on the line of "define"
+abbrev pub Front : Type 0
+Front = ℕ × (Linkage × Signature)
+
+-- what is kept of it in code, as it is here
+abbrev pub front_of : Opening → Front
+front_of o = (o.line, (o.linkage, signature_of o.prototype))
+
+-- "define" [linkage] pre* attr* rtype GLOBAL ( param,* ) fsuf* {
+unfoldable pub opening_forms : Rule Front
+opening_forms = lined (class.Define ▷ seq linkage (ending defined_signatures (dropped defined_ends) ◁ class.OpenCurly))
+
+abbrev pub openings : Rule Front
+openings = within (class.Define ∷ []) [] false opening_forms
+
+abbrev pub definition_of : Front × List Block → Option Entity
+definition_of z = Some (entity.Function (function_of z.0.0 z.0.1.0 z.0.1.1 (Some z.1)))
 
 -- "define" [linkage] pre* attr* rtype GLOBAL ( param,* ) fsuf* { first block* }
 unfoldable pub definition_forms : Rule (Option Entity)
-definition_forms = made definition_of (lined (class.Define ▷ seq linkage
-    (seq (ending defined_signatures (dropped defined_ends)) bodies)))
+definition_forms = made definition_of (seq openings closed_blocks)
 
 abbrev pub definitions : Rule (Option Entity)
 definitions = within (class.Define ∷ []) [] false definition_forms

@@ -1,5 +1,6 @@
 pub mod BlockWords
 pub mod Entities
+pub mod FirstBlocks
 pub mod Functions
 pub mod Heads
 pub mod Initialisers

@@ -5,10 +5,10 @@ ghost use Rattle.ir_rules.specs.Reading.{Gives};
 ghost use Rattle.ir_rules.specs.Rules.{has, option, word};
 ghost use Rattle.ir_body.specs.Blocks.{block_starts};
 ghost use Rattle.ir_read.specs.BlockWords.{computation_words, instruction_words, other_starts};
-ghost use Rattle.ir_read.specs.Functions.{block_lists, bodies, declarations, definitions, function_of, signature_of};
+ghost use Rattle.ir_read.specs.Functions.{block_lists, closed_blocks, declarations, definitions, front_of, function_of, openings, signature_of};
 
 use crate::heads::read_linkage;
-use crate::prototype::Prototype;
+use crate::prototype::{Opening, Prototype};
 use crate::signatures::{read_declared_signature, read_defined_signature};
 use crate::suffixes::{skip_declared_ends, skip_defined_ends, skip_metadata};
 use ir_body::read_block;
@@ -165,15 +165,37 @@ fn read_blocks<'t>(alloc: Global, rest: Rest<'t>) -> Result<(Vec<Block>, Rest<'t
     Ok((list, rest))
 }
 
-/// Reads the body of a function.
-#[tactic(auto, unfolding(crate::specs::Functions::body_forms))]
-fn read_body<'t>(alloc: Global, rest: Rest<'t>) -> Result<(Blocks, Rest<'t>), End>
-    ensures { Gives (λ x. x) result (bodies.read rest.entry) }
+/// Reads the blocks of a function, and the bracket behind them.
+#[tactic(auto, unfolding(crate::specs::Functions::closed_block_forms))]
+fn read_closed_blocks<'t>(alloc: Global, rest: Rest<'t>) -> Result<(Blocks, Rest<'t>), End>
+    ensures { Gives (λ x. x) result (closed_blocks.read rest.entry) }
 {
-    let rest = word(rest, Class::OpenCurly)?;
     let (list, rest) = read_blocks(alloc, rest)?;
     let rest = word(rest, Class::CloseCurly)?;
     Ok((Blocks::from_vec(list), rest))
+}
+
+/// Reads the front of a definition, up to the bracket before its first block.
+///
+/// # Errors
+///
+/// `Bad` at the first token that can't stand there, `NoMemory` if memory runs out.
+#[tactic(auto, unfolding(crate::specs::Functions::opening_forms))]
+pub(crate) fn read_opening<'t>(alloc: Global, rest: Rest<'t>) -> Result<(Opening, Rest<'t>), End>
+    ensures { Gives (λ x. (front_of x.0, x.1)) result (openings.read rest.entry) }
+{
+    let line = rest.line();
+    let rest = word(rest, Class::Define)?;
+    let (linkage, rest) = read_linkage(rest)?;
+    let (prototype, rest) = read_defined_signature(alloc, rest)?;
+    let rest = skip_defined_ends(alloc, rest)?;
+    let rest = word(rest, Class::OpenCurly)?;
+    let opening = Opening {
+        line,
+        linkage,
+        prototype,
+    };
+    Ok((opening, rest))
 }
 
 /// Reads the definition of a function.
@@ -185,12 +207,13 @@ fn read_body<'t>(alloc: Global, rest: Rest<'t>) -> Result<(Blocks, Rest<'t>), En
 pub(crate) fn read_definition<'t>(alloc: Global, rest: Rest<'t>) -> Result<(Entity, Rest<'t>), End>
     ensures { Gives (λ x. (Some x.0, x.1)) result (definitions.read rest.entry) }
 {
-    let line = rest.line();
-    let rest = word(rest, Class::Define)?;
-    let (linkage, rest) = read_linkage(rest)?;
-    let (prototype, rest) = read_defined_signature(alloc, rest)?;
-    let rest = skip_defined_ends(alloc, rest)?;
-    let (blocks, rest) = read_body(alloc, rest)?;
+    let (opening, rest) = read_opening(alloc, rest)?;
+    let (blocks, rest) = read_closed_blocks(alloc, rest)?;
+    let Opening {
+        line,
+        linkage,
+        prototype,
+    } = opening;
     let function = function_of(line, linkage, prototype, Some(blocks));
     Ok((Entity::Function(function), rest))
 }

@@ -3,6 +3,7 @@
 
 mod defined;
 mod dropped;
+mod first_block;
 mod functions;
 mod heads;
 mod initialisers;

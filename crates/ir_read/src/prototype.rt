@@ -1,5 +1,5 @@
 //! What a function says before its body.
-use ir_syntax::{NameUse, Params, TyText, Visibility};
+use ir_syntax::{Linkage, NameUse, Params, TyText, Visibility};
 
 /// The prototype of a function (LangRef, "Functions").
 #[derive(Debug, Drop)]
@@ -12,4 +12,15 @@ pub(crate) struct Prototype {
     pub name: NameUse,
     /// Its parameters.
     pub params: Params,
+}
+
+/// What a definition says before its first block.
+#[derive(Debug, Drop)]
+pub(crate) struct Opening {
+    /// The line that it begins on.
+    pub line: u32,
+    /// Who sees the function.
+    pub linkage: Linkage,
+    /// What it says as a declaration does.
+    pub prototype: Prototype,
 }

@@ -1,17 +1,20 @@
 //! A text as the items of its module.
-ghost use Rattle.std.specs.Prelude.{◌≡◌, ◌≤◌, ◌-◌, IfOk, IfErr, List, drop, length};
+ghost use Rattle.std.specs.Prelude.{◌≡◌, ◌≤◌, ◌-◌, IfOk, IfErr, List, Err, drop, length};
+ghost use Rattle.ir_words.specs.Classes.{head_line, head_text};
 ghost use Rattle.ir_words.specs.Lexemes.{lexemes};
+ghost use Rattle.ir_syntax.specs.declared.refusal.Refusal.TheVariants.{Unsupported};
 ghost use Rattle.ir_rules.specs.Reading.{Gives, read_all};
 ghost use Rattle.ir_read.specs.Entities.{modules};
-ghost use Rattle.ir_read.specs.Refusals.{Finds, IsModule, IsRefusal, Settles, last_line, refused};
+ghost use Rattle.ir_read.specs.Refusals.{Finds, IsModule, IsRefusal, IsRefusedAt, Settles, last_line, refused, refused_alloca};
 ghost use Rattle.ir_names.specs.declared.entity.Entity.{Entity};
 
+use crate::first_block::is_in_first_block;
 use crate::top::read_items;
 use ir_lex::{LexEnd, tokens};
 use ir_names::Entities;
 use ir_rules::{End, bad};
 use ir_syntax::{Bytes, Refusal};
-use ir_words::{Rest, is_table};
+use ir_words::{Class, Rest, is_table};
 use std::alloc::{AllocError, Global};
 
 /// The line of the last token, or 1 where there is none.
@@ -38,22 +41,54 @@ fn from_bad<'t>(rest: Rest<'t>, left: usize) -> Rest<'t>
     rest
 }
 
+/// The refusal for the first of these tokens, as a word of the language that is left out.
+fn left_out(alloc: Global, rest: Rest<'_>) -> Result<Refusal, AllocError>
+    ensures { IfOk result (λ e. e ≡ Unsupported (head_line rest.entry) (head_text rest.entry)) }
+{
+    let word = rest.text().to_vec(alloc)?;
+    Ok(Refusal::Unsupported {
+        line: rest.line(),
+        word: Bytes::from_vec(word),
+    })
+}
+
 /// The refusal for the first of these tokens; where none is left, for the end of the text, on a last
 /// line.
 fn refused(alloc: Global, line: u32, rest: Rest<'_>) -> Result<Refusal, AllocError>
     ensures { IfOk result (λ e. e ≡ refused line rest.entry) }
 {
     if is_table(rest.first()) {
-        let word = rest.text().to_vec(alloc)?;
-        return Ok(Refusal::Unsupported {
-            line: rest.line(),
-            word: Bytes::from_vec(word),
-        });
+        return left_out(alloc, rest);
     }
     if rest.is_empty() {
         return Ok(Refusal::Form { line });
     }
     Ok(Refusal::Form { line: rest.line() })
+}
+
+/// The refusal for `alloca` as the first of these tokens, in a first block or not.
+fn refused_alloca(alloc: Global, inside: bool, rest: Rest<'_>) -> Result<Refusal, AllocError>
+    ensures { IfOk result (λ e. e ≡ refused_alloca inside rest.entry) }
+{
+    if inside {
+        return Ok(Refusal::Form { line: rest.line() });
+    }
+    left_out(alloc, rest)
+}
+
+/// The refusal for the first bad token of all, from which on so many are left.
+fn refused_at(alloc: Global, all: Rest<'_>, left: usize) -> Result<Refusal, End>
+    ensures { IfOk result (λ e. read_all modules all.entry ≡ Err left → IsRefusedAt all.entry (length all.entry - left) e) }
+{
+    let line = last_line(all.copy());
+    let rest = from_bad(all.copy(), left);
+    match rest.first() {
+        Class::Alloca => {
+            let inside = is_in_first_block(alloc, all)?;
+            Ok(refused_alloca(alloc, inside, rest)?)
+        }
+        _ => Ok(refused(alloc, line, rest)?),
+    }
 }
 
 /// Reads all tokens as the items of a module.
@@ -72,11 +107,10 @@ fn read_lexed(alloc: Global, rest: Rest<'_>) -> Result<Entities, Refusal>
     ensures { Settles rest.entry (read_all modules rest.entry) result }
 {
     let all = rest.copy();
-    let line = last_line(rest.copy());
     match read_whole(alloc, rest) {
         Ok(found) => Ok(found),
         Err(End::NoMemory) => Err(Refusal::NoMemory),
-        Err(End::Bad(left)) => match refused(alloc, line, from_bad(all, left)) {
+        Err(End::Bad(left)) => match refused_at(alloc, all, left) {
             Ok(refusal) => Err(refusal),
             Err(_) => Err(Refusal::NoMemory),
         },
@@ -89,9 +123,9 @@ fn read_lexed(alloc: Global, rest: Rest<'_>) -> Result<Entities, Refusal>
 ///
 /// `Lex` with the line of the first place where no token begins. Else, for the first bad token, the
 /// first with which no module begins as the tokens before it do: `Unsupported` with its line and its
-/// bytes if it is a word of the language that is left out here, or else `Form` with its line; at the
-/// end of the text `Form` with the line of the last token, or 1 where there is none. `NoMemory` if
-/// memory ran out.
+/// bytes if it is a word of the language that is left out here, as `alloca` is outside of the first
+/// block of a function, or else `Form` with its line; at the end of the text `Form` with the line of
+/// the last token, or 1 where there is none. `NoMemory` if memory ran out.
 pub fn read_entities(alloc: Global, bytes: &[u8]) -> Result<Entities, Refusal>
     requires { length bytes.now ≤ 16777216 }
     ensures ok { IfOk result (IsModule bytes.now) }

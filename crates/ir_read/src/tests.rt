@@ -52,7 +52,7 @@ const MODULES: [(&[u8], Wanted); 32] = [
     (b"%t = type\nopaque", Wanted::Unsupported(2, b"opaque")),
     (b"%t = type { i32,\n}", Wanted::Form(2)),
     (b"module asm \"nop\"", Wanted::Unsupported(1, b"module")),
-    (b"alloca", Wanted::Form(1)),
+    (b"alloca", Wanted::Unsupported(1, b"alloca")),
     (b"$c = comdat any", Wanted::Unsupported(1, b"$c")),
     (b"\n\n\x01", Wanted::Lex(3)),
     (b"\n@\"a\\00\" = global i8 0", Wanted::Lex(2)),

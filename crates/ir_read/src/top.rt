@@ -68,8 +68,15 @@ fn begins_dropped(class: Class) -> bool
 }
 
 /// Reads an item; of some nothing is kept.
+///
+/// # Errors
+///
+/// `Bad` at the first token that can't stand there, `NoMemory` if memory runs out.
 #[tactic(auto, unfolding(crate::specs::Entities::entity_forms))]
-fn read_entity<'t>(alloc: Global, rest: Rest<'t>) -> Result<(Option<Entity>, Rest<'t>), End>
+pub(crate) fn read_entity<'t>(
+    alloc: Global,
+    rest: Rest<'t>,
+) -> Result<(Option<Entity>, Rest<'t>), End>
     ensures { Gives (λ x. x) result (entities.read rest.entry) }
 {
     if begins_dropped(rest.first()) {
@@ -79,7 +86,7 @@ fn read_entity<'t>(alloc: Global, rest: Rest<'t>) -> Result<(Option<Entity>, Res
 }
 
 /// Whether a token of a class begins an item.
-fn begins_entity(class: Class) -> bool
+pub(crate) fn begins_entity(class: Class) -> bool
     ensures { result ≡ has entity_starts class }
 {
     matches!(

@@ -1,0 +1,46 @@
+//! The first block of a function, the one that may allocate (LangRef, "alloca Instruction").
+ghost use Rattle.std.specs.Prelude.{◌≡◌, IfOk};
+ghost use Rattle.ir_read.specs.FirstBlocks.{TellsFirstBlock, stops_in_block};
+
+use crate::functions::read_opening;
+use crate::top::{begins_entity, read_entity};
+use ir_body::read_block;
+use ir_rules::End;
+use ir_words::Rest;
+use std::alloc::Global;
+
+/// Whether the front of a definition is read here, and then no first block.
+fn stops_in_block(alloc: Global, rest: Rest<'_>) -> Result<bool, End>
+    ensures { IfOk result (λ stops. stops ≡ stops_in_block rest.entry) }
+{
+    let rest = match read_opening(alloc, rest) {
+        Ok((_opening, rest)) => rest,
+        Err(End::Bad(_)) => return Ok(false),
+        Err(End::NoMemory) => return Err(End::NoMemory),
+    };
+    match read_block(alloc, rest, true) {
+        Ok(_) => Ok(false),
+        Err(End::Bad(_)) => Ok(true),
+        Err(End::NoMemory) => Err(End::NoMemory),
+    }
+}
+
+/// Whether the first bad token of all, if it is `alloca`, stands in the first block of a function.
+/// The readers tell no more than the token, so the items before it are read again.
+///
+/// # Errors
+///
+/// `NoMemory` if memory runs out.
+pub(crate) fn is_in_first_block(alloc: Global, rest: Rest<'_>) -> Result<bool, End>
+    ensures { IfOk result (TellsFirstBlock rest.entry) }
+{
+    let mut rest = rest;
+    while begins_entity(rest.first()) {
+        rest = match read_entity(alloc, rest.copy()) {
+            Ok((_found, after)) => after,
+            Err(End::Bad(_)) => return stops_in_block(alloc, rest),
+            Err(End::NoMemory) => return Err(End::NoMemory),
+        };
+    }
+    Ok(false)
+}
