@@ -1,18 +1,17 @@
 -- The extent of a tree, and that it is made from those of its parts.
-use Rattle.std.proofs.Common.{◌≡◌, ◌∙◌, ℕ, ◌+◌, ◌*◌, ◌≤◌, ◌<◌, Bool, true, false, ◌&&◌, nat_le, max, cond, Option, None, Some, option_map, if◌then◌else◌, refl, sym, ap, arith, inl, inr}
+use Rattle.std.proofs.Common.{◌≡◌, ◌∙◌, ℕ, ◌+◌, ◌≤◌, ◌<◌, Bool, true, false, nat_le, max, Option, None, Some, option_map, if◌then◌else◌, refl, sym, ap, arith}
 use Rattle.std.specs.Option.{option_and_then}
-use Rattle.std.proofs.lemmas.Bool.{cases_lt}
 use Rattle.std.proofs.lemmas.Bool.Decides.{nat_tests}
 use Rattle.std.proofs.lemmas.Grind.{div_ceil_times}
-use Rattle.ir_check.specs.Extents.{array_extent, field_extent, limited, no_fields, struct_extent}
+use Rattle.ir_check.specs.Extents.{array_extent, field_extent, is_limited, joined, limited, no_fields, struct_extent}
 use Rattle.ir_check.specs.Sized.{is_small, more_of, fields_by}
 use Rattle.ir_check.specs.declared.extent.Extent.{Extent}
 use Rattle.ir_syntax.specs.Types as text
 use Rattle.ir_syntax.specs.Types.{TextTree, TextTrees}
 use Rattle.ty_core.proofs.Alignments.{one_is_least}
 use Rattle.ty_core.proofs.Ends.{ends_behind}
-use Rattle.ty_core.specs.Places.{places_of, places_in, place_limit}
-use Rattle.ty_core.specs.Size.{size_of, end_of, align_of, begin_at, rounded, greatest_align, greatest_size, greatest_size_in, layout_of, layout_behind, struct_align, size_limit}
+use Rattle.ty_core.specs.Places.{places_of, places_in}
+use Rattle.ty_core.specs.Size.{end_of, align_of, rounded, greatest_align, greatest_size, greatest_size_in, layout_of, layout_behind, struct_align, size_limit}
 use Rattle.ty_core.specs.Tree.{Tree, int, ptr, array, struct, Trees, end, more}
 
 abbrev mutual
@@ -45,17 +44,6 @@ fields_with inner packed before text.end = Some before
 fields_with inner packed before (text.more head tail) =
     option_and_then (λ field. option_and_then (λ next. fields_with inner packed next tail) (field_extent packed before field)) (inner head)
 
--- the fields up to one, without a limit
-abbrev next_to : Bool → Extent → Tree → Extent
-next_to packed before field = record {
-  layout = record {
-    size = begin_at packed before.layout.size (align_of field) + rounded (size_of field) (align_of field);
-    align = max before.layout.align (align_of field);
-  };
-  places = before.places + (1 + places_of field);
-  levels = max before.levels (levels_of field);
-}
-
 -- a struct of the fields before these, and of these, without a limit
 abbrev whole : Bool → Extent → Trees → Extent
 whole packed before fields = record {
@@ -68,8 +56,8 @@ abbrev kept_whole : Bool → Extent → Option Trees → Option Extent
 kept_whole packed before None = None
 kept_whole packed before (Some fields) = if nat_le (greatest_size_in fields) size_limit then limited (whole packed before fields) else None
 
-whole-more : (packed : Bool) (before : Extent) (head : Tree) (tail : Trees) → whole packed before (more head tail) ≡ whole packed (next_to packed before head) tail
-whole-more packed before head tail = 
+whole-more : (packed : Bool) (before : Extent) (head : Tree) (tail : Trees) → whole packed before (more head tail) ≡ whole packed (joined packed before (extent_of head)) tail
+whole-more packed before head tail =
     let aligns : max before.layout.align (max (align_of head) (greatest_align tail)) ≡ max (max before.layout.align (align_of head)) (greatest_align tail) = omega arith in
     let places : before.places + (1 + places_of head + places_in tail) ≡ before.places + (1 + places_of head) + places_in tail = omega arith in
     let levels : max before.levels (max (levels_of head) (levels_in tail)) ≡ max (max before.levels (levels_of head)) (levels_in tail) = omega arith in
@@ -91,19 +79,19 @@ positive_align_of false a positive = positive
 
 -- so do the fields up to one
 big_next : (packed : Bool) (before : Extent) (head : Tree) (rest : Option Trees) → 0 < before.layout.align →
-    (nat_le (next_to packed before head).layout.size size_limit && nat_le (next_to packed before head).places place_limit) ≡ false →
+    is_limited (joined packed before (extent_of head)) ≡ false →
     kept_whole packed before (more_of (Some head) rest) ≡ None
 big_next packed before head None positive big = refl
 big_next packed before head (Some tail) positive big =
     let last : ℕ = end_of packed before.layout.size (more head tail) in
     let align : ℕ = struct_align packed (max before.layout.align (greatest_align (more head tail))) in
-    let behind : (next_to packed before head).layout.size ≤ last = ends_behind packed (next_to packed before head).layout.size tail in
+    let behind : (joined packed before (extent_of head)).layout.size ≤ last = ends_behind packed (joined packed before (extent_of head)).layout.size tail in
     let up : last ≤ rounded last align = (div_ceil_times last align (positive_align_of packed _ (omega arith))).0 in
     grind (arith, nat_tests)
 
 -- fields that are not too big have the extent of the struct of them
 fits_next : (packed : Bool) (before : Extent) (head : Tree) (rest : Option Trees) → is_small (Some head) ≡ true →
-    kept_whole packed (next_to packed before head) rest ≡ kept_whole packed before (more_of (Some head) rest)
+    kept_whole packed (joined packed before (extent_of head)) rest ≡ kept_whole packed before (more_of (Some head) rest)
 fits_next packed before head None small = refl
 fits_next packed before head (Some tail) small =
     let test : nat_le (greatest_size_in tail) size_limit ≡ nat_le (max (greatest_size head) (greatest_size_in tail)) size_limit = grind (arith, nat_tests) in
@@ -116,10 +104,10 @@ kept-head : (packed : Bool) (before : Extent) (head : Tree) (rest : Option Trees
 kept-head packed before head rest go is positive = at_head (is_small (Some head)) refl
   where
     at_next : (fits : Bool) → is_small (Some head) ≡ true →
-        (nat_le (next_to packed before head).layout.size size_limit && nat_le (next_to packed before head).places place_limit) ≡ fits →
-        option_and_then (struct_extent packed) (option_and_then go (if fits then Some (next_to packed before head) else None)) ≡ kept_whole packed before (more_of (Some head) rest)
+        is_limited (joined packed before (extent_of head)) ≡ fits →
+        option_and_then (struct_extent packed) (option_and_then go (if fits then Some (joined packed before (extent_of head)) else None)) ≡ kept_whole packed before (more_of (Some head) rest)
     at_next false small big = sym (big_next packed before head rest positive big)
-    at_next true small fits = is (next_to packed before head) (omega (arith, positive)) ∙ fits_next packed before head rest small
+    at_next true small fits = is (joined packed before (extent_of head)) (omega (arith, positive)) ∙ fits_next packed before head rest small
 
     at_head : (small : Bool) → is_small (Some head) ≡ small →
         option_and_then (struct_extent packed) (option_and_then (λ field. option_and_then go (field_extent packed before field)) (if small then Some (extent_of head) else None))
@@ -151,7 +139,7 @@ kept-whole packed (Some fields) =
     let places : 0 + places_in fields ≡ places_in fields = omega arith in
     let levels : max 0 (levels_in fields) ≡ levels_in fields = omega arith in
     let same : whole packed no_fields fields ≡ extent_of (struct packed fields) =
-        λ i. record { layout = layout_behind packed (end_of packed 0 fields) (align i); places = 1 + places i; levels = 1 + levels i } in
+    λ i. record { layout = layout_behind packed (end_of packed 0 fields) (align i); places = 1 + places i; levels = 1 + levels i } in
     ap (λ e. if nat_le (greatest_size_in fields) size_limit then limited e else None) same ∙ grind (arith, nat_tests)
 
 -- a struct has the extent that its fields make

@@ -1,5 +1,5 @@
 -- Names, compared and looked up.
-use Rattle.std.proofs.Common.{◌≡◌, ◌∙◌, ℕ, Bool, true, false, cond, Option, None, Some, List, [], ◌∷◌, bytes_eq, nat_eq, if◌then◌else◌, ◌&&◌, is_some, option_copied, Bor, true≢false, refl, sym, ap, arith}
+use Rattle.std.proofs.Common.{◌≡◌, ℕ, Bool, true, false, cond, Option, None, Some, List, [], ◌∷◌, bytes_eq, nat_eq, if◌then◌else◌, ◌&&◌, is_some, option_copied, Bor, true≢false, refl, sym, ap, arith}
 use Rattle.std.proofs.lemmas.Bool.Decides.{nat_tests}
 use Rattle.ir_check.specs.NameMaps.{or_else}
 

@@ -1,16 +1,15 @@
 -- Types measured, where the extents of the named ones are known.
-use Rattle.std.specs.Prelude.{ℕ, zero, suc, ◌≤◌, Bool, nat_le, Option, None, Some, IfSome, List, [], ◌∷◌, map, option_map, slice_get, if◌then◌else◌}
+use Rattle.std.specs.Prelude.{◌≡◌, ℕ, zero, suc, Bool, nat_le, Option, None, Some, IfSome, List, [], ◌∷◌, map, option_map, slice_get, if◌then◌else◌}
 use Rattle.std.specs.Option.{option_and_then}
 use Rattle.ir_check.specs.declared.extent.Extent.{Extent}
 use Rattle.ir_check.specs.declared.table.Table.{Table}
-use Rattle.ir_check.specs.Extents.{IsExtent, array_extent, field_extent, limited, no_fields, scalar_extent, struct_extent}
+use Rattle.ir_check.specs.Extents.{IsExtent, array_extent, field_extent, integer_extent, limited, no_fields, pointer_extent, struct_extent}
 use Rattle.ir_check.specs.NameMaps.{value_of}
 use Rattle.ir_check.specs.Sized.{level_limit}
 use Rattle.ir_syntax.specs.Names.{same_name}
 use Rattle.ir_syntax.specs.Types.{TextTree, int, ptr, array, struct, named, TextTrees, end, more}
 use Rattle.ir_syntax.specs.declared.name.Name.{Name}
 use Rattle.ir_syntax.specs.declared.type_def.TypeDef.{TypeDef}
-use Rattle.ty_core.specs.Size.{bytes_of, least_power}
 
 -- what stands one level below, if a level is left
 abbrev pub one_below : {A : Type 0} → ℕ → (ℕ → Option A) → Option A
@@ -25,8 +24,8 @@ within_levels levels (Some e) = if nat_le e.levels levels then Some e else None
 abbrev mutual
   -- a type of at most so many levels, where `known` has the extents of names
   pub measured : (Name → Option Extent) → ℕ → TextTree → Option Extent
-  measured known levels (int bits) = limited (scalar_extent (record { size = bytes_of bits; align = least_power (bytes_of bits) }))
-  measured known levels ptr = Some (scalar_extent (record { size = 8; align = 8 }))
+  measured known levels (int bits) = limited (integer_extent bits)
+  measured known levels ptr = Some pointer_extent
   measured known levels (array len elem) = one_below levels (λ below. option_and_then (array_extent len) (measured known below elem))
   measured known levels (struct packed fields) =
       one_below levels (λ below. option_and_then (struct_extent packed) (measured_fields known below packed no_fields fields))
@@ -73,3 +72,7 @@ known_by table name = option_and_then (extent_at table.extents.items) (value_of 
 
 abbrev pub AreExtents : List (Option Extent) → Type 0
 AreExtents extents = (place : ℕ) → IfSome (extent_at extents place) IsExtent
+
+-- a table that knows what so many rounds find
+abbrev pub IsTable : List TypeDef → ℕ → Table → Type 0
+IsTable defs rounds table = (table.extents.items ≡ extents_after defs rounds) × ((name : Name) → value_of table.places name ≡ place_of defs name)

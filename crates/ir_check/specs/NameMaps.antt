@@ -1,8 +1,7 @@
 -- What a map of names has.
-use Rattle.std.specs.Prelude.{ℕ, List, Option, None, Some, nat_eq}
+use Rattle.std.specs.Prelude.{Option, None, Some, nat_eq}
 use Rattle.std.specs.Map.{lookup}
 use Rattle.std.specs.Str.{bytes_eq}
-use Rattle.indexmap.specs.IndexMap.{IndexMap}
 use Rattle.ir_check.specs.declared.names.NameMap.{NameMap}
 use Rattle.ir_syntax.specs.declared.name.Name.{Name}
 use Rattle.ir_syntax.specs.declared.name.Name.TheVariants.{Named, Unnamed, Implicit}

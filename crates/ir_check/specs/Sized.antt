@@ -62,6 +62,10 @@ is_small (Some tree) = nat_le (greatest_size tree) size_limit && nat_le (places_
 abbrev pub is_sized : List TypeDef → TextTree → Bool
 is_sized defs ty = is_small (replaced defs level_limit ty)
 
+-- the lines of some of the definitions, those of types that have no size
+abbrev pub unsized_lines_in : List TypeDef → List TypeDef → List ℕ
+unsized_lines_in defs some = flat_map (λ d. line_if (not (is_sized defs d.body)) d.line) some
+
 -- the lines of the definitions of types that have no size
 abbrev pub unsized_lines : List TypeDef → List ℕ
-unsized_lines defs = flat_map (λ d. line_if (not (is_sized defs d.body)) d.line) defs
+unsized_lines defs = unsized_lines_in defs defs

@@ -79,10 +79,7 @@ fn push_params<'a>(names: &mut Vec<Defined<'a>>, params: &'a [Param]) -> Result<
     Ok(())
 }
 
-fn push_body<'a>(
-    names: &mut Vec<Defined<'a>>,
-    blocks: &'a Option<Blocks>,
-) -> Result<(), AllocError>
+fn push_body<'a>(names: &mut Vec<Defined<'a>>, blocks: &'a Option<Blocks>) -> Result<(), AllocError>
     ensures { OnOk result (names.new.items ≡ names.old.items ++ body_names blocks.now) }
 {
     match blocks {

@@ -4,17 +4,23 @@
 
 mod defined;
 mod extent;
+mod lines;
 mod measured;
 mod names;
 mod repeated;
 mod reserved;
+mod rounds;
 mod signatures;
-#[cfg(test)]
-mod repeated_tests;
 mod sized;
 mod table;
 
+pub use lines::push_line_if;
 pub use repeated::repeated_lines;
 pub use reserved::{is_label_name, is_reserved};
 pub use signatures::is_declarable;
 pub use sized::unsized_lines;
+
+#[cfg(test)]
+mod repeated_tests;
+#[cfg(test)]
+mod sized_tests;

@@ -10,6 +10,9 @@ use crate::table::Table;
 use ir_syntax::{Name, TypeTree, TypeTreeList};
 use ty_core::{Layout, integer_layout};
 
+/// The most levels that arrays and structs may stand inside each other.
+pub(crate) const LEVEL_LIMIT: u32 = 64;
+
 /// The extent of a type of at most so many levels, 64 or fewer; none if it has more, is too big, has too many places, or
 /// has a part of a named type that the table has none for.
 #[cycle(measured)]

@@ -7,6 +7,7 @@ ghost use Rattle.ir_check.specs.NameMaps.{or_else, value_of};
 ghost use Rattle.ir_check.specs.Repeated.{function_name_at, line_if, local_names, repeated_lines, repeats, type_name};
 
 use crate::defined::{Defined, push_functions, push_locals, push_types};
+use crate::lines::push_line_if;
 use crate::names::NameMap;
 use ir_syntax::{Function, Module, TypeDef};
 use std::alloc::{AllocError, Global};
@@ -97,10 +98,7 @@ fn push_if_seen(
     ensures { OnOk result (lines.new.items
         ≡ lines.old.items ++ line_if (is_some (value_of seen.now defined.now.name)) defined.now.line) }
 {
-    if seen.get(defined.name).is_some() {
-        lines.push(defined.line)?;
-    }
-    Ok(())
+    push_line_if(lines, seen.get(defined.name).is_some(), defined.line)
 }
 
 fn see<'a>(seen: &mut NameMap<'a, ()>, defined: &Defined<'a>) -> Result<(), AllocError>

@@ -73,7 +73,5 @@ fn fits_host(function: &Function) -> bool
 pub fn is_declarable(function: &Function) -> bool
     ensures { result ≡ is_declarable function.now }
 {
-    is_valued(&function.result)
-        & are_valued(function.params.as_slice())
-        & fits_host(function)
+    is_valued(&function.result) & are_valued(function.params.as_slice()) & fits_host(function)
 }

@@ -1,8 +1,14 @@
 //! Types that have no size (LangRef, "Structure Type" and "Data Layout").
-ghost use Rattle.std.specs.Prelude.{◌≡◌, IfOk};
-ghost use Rattle.ir_check.specs.Sized.{unsized_lines};
+ghost use Rattle.std.specs.Prelude.{◌≡◌, IfOk, List};
+ghost use Rattle.ir_check.specs.Measured.{AreExtents, IsTable};
+ghost use Rattle.ir_check.specs.Sized.{is_sized, level_limit, unsized_lines};
+ghost use Rattle.ir_syntax.specs.declared.type_def.TypeDef.{TypeDef};
 
-use ir_syntax::TypeDefs;
+use crate::lines::push_line_if;
+use crate::measured::{LEVEL_LIMIT, measured};
+use crate::rounds::table_of;
+use crate::table::Table;
+use ir_syntax::{TyText, TypeDefs};
 use std::alloc::{AllocError, Global};
 
 /// The lines, from 1, of the definitions of types that have no size: a type that stands in itself, one in which arrays
@@ -11,5 +17,19 @@ use std::alloc::{AllocError, Global};
 pub fn unsized_lines(alloc: Global, types: &TypeDefs) -> Result<Vec<u32>, AllocError>
     ensures { IfOk result (λ lines. lines.items ≡ unsized_lines types.now) }
 {
-    Err(AllocError)
+    let defs = types.as_slice();
+    let table = table_of(alloc, defs)?;
+    let mut lines = Vec::new(alloc);
+    for def in defs {
+        push_line_if(&mut lines, !is_sized(&table, &def.body), def.line)?;
+    }
+    Ok(lines)
+}
+
+/// Whether a type has a size.
+fn is_sized(table: &Table<'_>, ty: &TyText) -> bool
+    requires { AreExtents table.now.extents.items }
+    ensures { (defs : List TypeDef) → IsTable defs level_limit table.now → result ≡ is_sized defs ty.now }
+{
+    measured(table, LEVEL_LIMIT, ty.tree()).is_some()
 }

@@ -1,11 +1,14 @@
 //! The extents of named types.
-ghost use Rattle.std.specs.Prelude.{◌≡◌, IfSome};
+ghost use Rattle.std.specs.Prelude.{◌≡◌, IfSome, IfOk};
 ghost use Rattle.ir_check.specs.Extents.{IsExtent};
-ghost use Rattle.ir_check.specs.Measured.{AreExtents, known_by};
+ghost use Rattle.ir_check.specs.Measured.{AreExtents, known_by, place_of};
+ghost use Rattle.ir_check.specs.NameMaps.{value_of};
+ghost use Rattle.ir_syntax.specs.declared.name.Name.{Name};
 
 use crate::extent::Extent;
 use crate::names::NameMap;
-use ir_syntax::Name;
+use ir_syntax::{Name, TypeDef};
+use std::alloc::{AllocError, Global};
 
 /// The extents of the definitions of types, each found by its name.
 #[derive(Drop)]
@@ -26,4 +29,18 @@ impl<'a> Table<'a> {
         let place = self.places.get(name)?;
         *self.extents.get(place)?
     }
+}
+
+/// The places of these definitions, counted from 0, by their names; where several define one name, of the first.
+pub(crate) fn places_of<'a>(
+    alloc: Global,
+    defs: &'a [TypeDef],
+) -> Result<NameMap<'a, usize>, AllocError>
+    ensures { IfOk result (λ places. (name : Name) → value_of places name ≡ place_of defs.now name) }
+{
+    let mut places = NameMap::new(alloc);
+    for (place, def) in defs.iter().enumerate() {
+        places.add(&def.name, place)?;
+    }
+    Ok(places)
 }

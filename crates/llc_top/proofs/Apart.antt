@@ -14,7 +14,7 @@ use Rattle.cg_part.proofs.LinkingNames.{part_differs, part_resolves}
 use Rattle.cg_part.proofs.ResolvingLemmas.{text_resolves}
 use Rattle.cg_part.proofs.UnbuiltLemmas.{is_program}
 use Rattle.cg_part.specs.Unbuilt.{first_unbuilt}
-use Rattle.ir_read.proofs.OneAnswer.{reads_unique}
+use Rattle.ir_read.proofs.OneAnswer.{reads_excludes, reads_unique}
 use Rattle.ir_syntax.specs.declared.function.Function.{Function}
 use Rattle.ir_syntax.specs.declared.module.Module.{Module}
 use Rattle.ir_syntax.specs.declared.refusal.Refusal.{Refusal}
@@ -28,7 +28,6 @@ use Rattle.llc_words.specs.declared.types.Mode.TheVariants as modes
 use Rattle.llc_top.specs.declared.status.Status.{Status}
 use Rattle.llc_top.specs.declared.status.Status.TheVariants as statuses
 use Rattle.llc_top.proofs.Programs.{main_is}
-use Rattle.llc_top.proofs.Unread.{unread_apart}
 
 -- what was taken of a source that tells its bytes is no more than these
 taken-length : (bytes taken : List ℕ) (left' : Option (List ℕ)) → Consumes (Some bytes) left' taken → length taken ≤ length bytes
@@ -73,13 +72,13 @@ accepted_apart : (mode : Mode) (bytes : List ℕ) (m : Module) (refusal : Refusa
     IsFirstRefusal mode bytes refusal → ⊥
 accepted_apart mode bytes m (refusals.TooLong taken) accepted serves long = absurd (omega (arith, accepted.short, long.0))
 accepted_apart mode bytes m (refusals.Lex line) accepted serves refused =
-    unread_apart bytes m (refusals.Lex line) accepted.reads refused.1 (λ is. cc)
+    reads_excludes bytes m (refusals.Lex line) accepted.reads refused.1 (λ is. cc)
 accepted_apart mode bytes m (refusals.Unsupported line word) accepted serves refused =
-    unread_apart bytes m (refusals.Unsupported line word) accepted.reads refused.1 (λ is. cc)
+    reads_excludes bytes m (refusals.Unsupported line word) accepted.reads refused.1 (λ is. cc)
 accepted_apart mode bytes m (refusals.Form line) accepted serves refused =
-    unread_apart bytes m (refusals.Form line) accepted.reads refused.1 (λ is. cc)
+    reads_excludes bytes m (refusals.Form line) accepted.reads refused.1 (λ is. cc)
 accepted_apart mode bytes m (refusals.Name line) accepted serves refused =
-    unread_apart bytes m (refusals.Name line) accepted.reads refused.1 (λ is. cc)
+    reads_excludes bytes m (refusals.Name line) accepted.reads refused.1 (λ is. cc)
 accepted_apart mode bytes m (refusals.NotYet line) accepted serves (other, short, read, is) =
     let none : first_unbuilt other ≡ None = ap first_unbuilt (reads_unique bytes other m read accepted.reads) ∙ accepted.built in
     let both : Some line ≡ None = sym is ∙ none in
@@ -93,9 +92,9 @@ accepted_apart mode bytes m refusals.NoMemory accepted serves never = never
 -- what a source that tells its bytes gave and is refused, its text is refused with
 refused_first : (mode : Mode) (left left' : Option (List ℕ)) (bytes : List ℕ) (refusal : Refusal) → left ≡ Some bytes →
     TakesRefused mode left left' refusal → IsFirstRefusal mode bytes refusal
-refused_first mode left left' bytes (refusals.TooLong taken) told (is, takes) = (omega (arith, too_long left left' bytes taken told takes, is), is)
-refused_first mode left left' bytes refusal told (all, gave, first) =
-    subst (λ b. IsFirstRefusal mode b refusal) (given left left' bytes all told gave) first
+refused_first mode left left' bytes (refusals.TooLong taken) told takes = (omega (arith, too_long left left' bytes taken told takes.1, takes.0), takes.0)
+refused_first mode left left' bytes refusal told takes =
+    subst (λ b. IsFirstRefusal mode b refusal) (given left left' bytes takes.0 told takes.1) takes.2
 
 taken_accepted : (left left' : Option (List ℕ)) (bytes : List ℕ) (m : Module) → left ≡ Some bytes → TakesModule left left' m → IsAccepted bytes m
 taken_accepted left left' bytes m told takes = subst (λ b. IsAccepted b m) (given left left' bytes takes.bytes told takes.gave) takes.accepted

@@ -1,7 +1,6 @@
 //! The lines of items.
 ghost use Rattle.std.specs.Prelude.{◌≡◌, ◌++◌, ◌||◌, not, Some, OnOk, map};
 ghost use Rattle.std.specs.List.{flat_map};
-ghost use Rattle.ir_check.specs.Repeated.{line_if};
 ghost use Rattle.ir_check.specs.Reserved.{is_label_name};
 ghost use Rattle.ir_check.specs.Signatures.{is_declarable};
 ghost use Rattle.ir_syntax.specs.Names.{name_bytes};
@@ -10,7 +9,7 @@ ghost use Rattle.cg_part.specs.Unbuilt.{unbuilt_by, unbuilt_in};
 use crate::built::body::is_built_body;
 use crate::built::head::is_built_head;
 use crate::symbol::bytes_of;
-use ir_check::{is_declarable, is_label_name};
+use ir_check::{is_declarable, is_label_name, push_line_if};
 use ir_syntax::{Alias, Block, Function, Global, TypeDef};
 use std::alloc::AllocError;
 
@@ -69,7 +68,7 @@ fn push_function(lines: &mut Vec<u32>, function: &Function) -> Result<(), AllocE
 {
     match &function.blocks {
         Some(blocks) => push_definition(lines, function, blocks.as_slice()),
-        None => push_if(lines, is_strange(function), function.line),
+        None => push_line_if(lines, is_strange(function), function.line),
     }
 }
 
@@ -82,10 +81,10 @@ fn push_definition(
 {
     match blocks {
         [first, more @ ..] => {
-            push_if(lines, !is_built_head(function), function.line)?;
-            push_if(lines, !is_built_body(function, first, more), first.line)
+            push_line_if(lines, !is_built_head(function), function.line)?;
+            push_line_if(lines, !is_built_body(function, first, more), first.line)
         }
-        [] => push_if(lines, true, function.line),
+        [] => push_line_if(lines, true, function.line),
     }
 }
 
@@ -94,14 +93,4 @@ fn is_strange(function: &Function) -> bool
     ensures { result ≡ (is_label_name (name_bytes function.now.name) || not (is_declarable function.now)) }
 {
     is_label_name(bytes_of(&function.name)) | !is_declarable(function)
-}
-
-/// Adds the line of a fault.
-fn push_if(lines: &mut Vec<u32>, fault: bool, line: u32) -> Result<(), AllocError>
-    ensures { OnOk result (lines.new.items ≡ lines.old.items ++ line_if fault line) }
-{
-    if fault {
-        lines.push(line)?;
-    }
-    Ok(())
 }

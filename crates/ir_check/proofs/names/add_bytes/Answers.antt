@@ -1,4 +1,4 @@
-use Rattle.std.proofs.Common.{◌≡◌, ◌∙◌, ap, sym, arith, Bor, List, ℕ, Some, None, bytes_eq, is_some, if◌then◌else◌, not}
+use Rattle.std.proofs.Common.{◌≡◌, ◌∙◌, ap, sym, Bor, List, ℕ, Some, None, bytes_eq, if◌then◌else◌, not}
 use Rattle.std.specs.Map.{lookup}
 use Rattle.std.proofs.lemmas.Slice.Eq.{bytes_eq-Decides}
 use Rattle.ir_check.proofs.NameLemmas.{added, bytes_eq_turned, none-copied}
@@ -12,5 +12,5 @@ returns-in_ok-insert g c = λ bytes.
     let none : old c.args.name.now ≡ None = sym c.get.ensures.value ∙ none-copied _ (c.is_none.ensures ∙ ap not c.if-is_none.true) in
     c.in_ok-insert.ensures.updates.0 key
     ∙ added (bytes_eq c.args.name.now bytes) (old bytes) c.args.value
-      (λ same. ap old (sym ((bytes_eq-Decides c.args.name.now bytes).0 same)) ∙ none)
+    (λ same. ap old (sym ((bytes_eq-Decides c.args.name.now bytes).0 same)) ∙ none)
     ∙ ap (λ same. or_else (old bytes) (if same then Some c.args.value else None)) (bytes_eq_turned c.args.name.now bytes)
