@@ -1,6 +1,6 @@
-use Rattle.std.proofs.Common.{ℕ, subst}
+use Rattle.std.proofs.Common.{◌∙◌, ℕ, subst, sym}
 use Rattle.ir_syntax.specs.declared.refusal.Refusal.TheVariants as refusals
-use Rattle.llc_top.specs.Partial.{HasTextReason}
+use Rattle.llc_top.specs.Partial.{HasModuleReason, HasTextReason, ToldRefusal}
 use Rattle.llc_top.proofs.Outcomes.{answer-weaker, refusal_answer, text_reason}
 use Rattle.llc_top.proofs.Unread.{unread_answer}
 use Rattle.llc_top.proofs.serve.serve_text.Goals as goal
@@ -10,7 +10,16 @@ returns-in-Err-clause-answer g c =
     unread_answer c.args.command.now c.args.text.now _ _ _ c.in-Err.refusal c.answer_unread.result c.requires c.in-Err.ensures.refused c.answer_unread.ensures.told
 
 pub returns-in-Ok-None-clause-answer : goal.returns-in-Ok-None-clause-answer
-returns-in-Ok-None-clause-answer g c = ?
+returns-in-Ok-None-clause-answer g c =
+    answer-weaker (HasModuleReason c.args.command.now c.in-Ok.m) (HasTextReason c.args.command.now c.args.text.now) c.serve_module.result _ _ _ _
+    (text_reason c.args.command.now c.args.text.now c.in-Ok.m
+    (record { short = c.requires; reads = c.in-Ok.ensures.reads; built = sym c.in-Ok-None.ensures.line ∙ c.in-Ok-None.field-0-is }))
+    c.serve_module.ensures.answer
 
 pub returns-in-Ok-Some-clause-answer : goal.returns-in-Ok-Some-clause-answer
-returns-in-Ok-Some-clause-answer g c = ?
+returns-in-Ok-Some-clause-answer g c =
+    refusal_answer (HasTextReason c.args.command.now c.args.text.now) _ _ _ (refusals.NotYet c.in-Ok-Some.line) c.answer_refusal.result
+    (c.in-Ok.m, c.requires, c.in-Ok.ensures.reads, sym c.in-Ok-Some.ensures.line ∙ c.in-Ok-Some.field-0-is)
+    (subst
+    (λ (line : ℕ). ToldRefusal (refusals.NotYet line) c.answer_refusal.result (g.E.Sink.written c.args.err.now) (g.E.Sink.written c.answer_refusal.new.err))
+    c.in-Ok-Some.line-is c.answer_refusal.ensures.told)
