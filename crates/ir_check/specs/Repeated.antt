@@ -1,5 +1,5 @@
 -- Names that are defined twice (LangRef, "Identifiers").
-use Rattle.std.proofs.Common.{◌≡◌, ◌∙◌, sym, ap}
+use Rattle.std.proofs.Common.{◌∙◌, sym, ap}
 use base.Stored.{Coded}
 use Rattle.ir_syntax.specs.Codes.{use_code, use_back, use_back_code}
 use Rattle.std.specs.Prelude.{ℕ, Bool, Option, None, Some, List, [], ◌∷◌, ◌++◌, map, if◌then◌else◌}

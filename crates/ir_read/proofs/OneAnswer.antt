@@ -1,10 +1,8 @@
 -- A text has one answer: one module, or one refusal.
-use Rattle.std.proofs.Common.{◌≡◌, ◌≢◌, ◌∙◌, ◌<◌, ◌≤◌, ℕ, suc, List, Option, Ok, Err, Some, length, take, drop, inl, inr, ap, sym, subst, arith}
+use Rattle.std.proofs.Common.{◌≡◌, ◌≢◌, ◌∙◌, ℕ, suc, List, Ok, length, drop, inl, inr, ap, sym, subst, arith}
 use Rattle.std.proofs.lemmas.Bool.{cases_lt}
 use Rattle.std.proofs.lemmas.List.{take-append-drop}
-use Rattle.std.specs.declared.result.Result.{Result}
 use Rattle.ir_lex.specs.Splitting.{tokens_of}
-use Rattle.ir_lex.specs.declared.kind.Token.{Token}
 use Rattle.ir_names.specs.Faults.{fault_lines}
 use Rattle.ir_names.specs.Least.{least}
 use Rattle.ir_names.specs.Modules.{module_of}

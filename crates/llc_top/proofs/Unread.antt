@@ -1,10 +1,8 @@
 -- Why a text is not read, as its first refusal.
-use Rattle.std.proofs.Common.{◌≡◌, ◌≢◌, ◌≤◌, ◌==◌, ℕ, Bool, true, false, if◌then◌else◌, Option, List, length, refl, sym, subst, inl, inr}
-use Rattle.std.specs.Prelude.{◌⊎◌}
-use Rattle.std.specs.Io.KnownBytes.{Appends}
+use Rattle.std.proofs.Common.{◌≢◌, ◌≤◌, ◌==◌, ℕ, Bool, true, false, if◌then◌else◌, Option, List, length, refl, sym, subst, inl, inr}
 use Rattle.std.proofs.KnownBytes.{Appends-nil}
 use Rattle.ir_read.specs.Modules as reading
-use Rattle.ir_read.specs.Refusals.{IsAllocaRefusal, IsRefusal, Refuses, refused}
+use Rattle.ir_read.specs.Refusals.{IsAllocaRefusal, Refuses, refused}
 use Rattle.ir_syntax.specs.declared.refusal.Refusal.{Refusal}
 use Rattle.ir_syntax.specs.declared.refusal.Refusal.TheVariants as refusals
 use Rattle.ir_words.specs.Classes.{first, head_line, head_text, is_table}
@@ -14,10 +12,9 @@ use Rattle.ir_words.specs.declared.class.Class.TheVariants.{Alloca}
 use Rattle.llc_words.specs.Commands.{Command}
 use Rattle.llc_words.specs.declared.types.Mode.{Mode}
 use Rattle.llc_top.proofs.Outcomes.{refusal_answer}
-use Rattle.llc_top.specs.Outcome.{Answers, IsFirstRefusal, Outcome, refuses, text_limit}
-use Rattle.llc_top.specs.Partial.{HasTextReason, ToldRefusal, ToldUnread}
+use Rattle.llc_top.specs.Outcome.{Answers, IsFirstRefusal, refuses, text_limit}
+use Rattle.llc_top.specs.Partial.{HasTextReason, ToldUnread}
 use Rattle.llc_top.specs.declared.status.Status.{Status}
-use Rattle.llc_top.specs.declared.status.Status.TheVariants as statuses
 
 -- the refusals of the reader
 abbrev IsOfReader : Refusal → Type 0

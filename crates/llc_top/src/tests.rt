@@ -97,8 +97,7 @@ fn what_the_grammar_drops_changes_no_assembly(rt: HostRuntime) -> Result<(), Fai
         assert_eq!(rt; told.status, Status::Done, "{text}");
         assert_eq!(rt;
             told.out.as_slice(),
-            b"#--- part 0\n\t.text\n\t.globl\ta\n\t.p2align\t2\na:\n\tmv\tt0, a0\n\tmv\tt0, a1\n\tmv\ta0, t0\n\tret\n"
-                .as_slice(),
+            b"#--- part 0\n\t.text\n\t.globl\ta\n\t.p2align\t2\na:\n\tmv\tt0, a0\n\tmv\tt0, a1\n\tmv\ta0, t0\n\tret\n".as_slice(),
             "{text}"
         );
         assert_eq!(rt; told.err.len(), 0, "{text}");
@@ -128,7 +127,7 @@ const UNREAD: [(&[u8], &str); 9] = [
     ),
     (
         b"define i64 @a() {\n  ret i64 +7\n}\n",
-        "llc: refused 4 Form 2\n",
+        "llc: refused 2 Lex 2\n",
     ),
     (
         b"define i64 @a() {\n  ret i64 %y\n}\n",
@@ -177,7 +176,10 @@ const NOT_YET: [(&str, u32); 34] = [
     ("define i64 @_start() {\n  ret i64 0\n}\n", 1),
     ("define i64 @__host_a() {\n  ret i64 0\n}\n", 1),
     ("define i64 @.LBB0a() {\n  ret i64 0\n}\n", 1),
-    ("define i64 @a() {\n  ret i64 0\n}\ndeclare void @.LBB7()\n", 4),
+    (
+        "define i64 @a() {\n  ret i64 0\n}\ndeclare void @.LBB7()\n",
+        4,
+    ),
     ("declare [2 x i64] @a()\n", 1),
     ("declare void @a({ i64 })\n", 1),
     ("declare void @__host_put(i64)\n", 1),
@@ -234,7 +236,10 @@ fn as_many_functions_as_there_may_be_are_compiled(rt: HostRuntime) -> Result<(),
     assert_eq!(rt; told.status, Status::WriteFault);
     let told = compile(&rt, &many_functions(rt.alloc(), 4097)?)?;
     assert_eq!(rt; told.status, Status::Refused);
-    assert_eq!(rt; told.err.as_slice(), b"llc: refused 18 NotYet 1\n".as_slice());
+    assert_eq!(rt;
+        told.err.as_slice(),
+        b"llc: refused 18 NotYet 1\n".as_slice()
+    );
     Ok(())
 }
 

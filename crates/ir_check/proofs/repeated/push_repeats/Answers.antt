@@ -1,4 +1,4 @@
-use Rattle.std.proofs.Common.{◌<◌, ◌∙◌, arith, length}
+use Rattle.std.proofs.Common.{◌<◌, arith, length}
 use Rattle.ir_check.proofs.RepeatedLemmas.{known_more, repeats_more}
 use Rattle.ir_check.proofs.repeated.push_repeats.Goals as goal
 
