@@ -26,3 +26,4 @@ mod tests;
 pub use assembler::{assemble, ordered_lines_are_assembled};
 pub use object::{Needs, Object, ObjectSymbol, Section, Symbols, Words};
 pub use refusal::AsmRefusal;
+pub use symbol::is_bare;

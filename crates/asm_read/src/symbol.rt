@@ -25,8 +25,8 @@ fn are_symbol_bytes(bytes: &[u8]) -> bool
     bytes.iter().all(|byte| is_symbol_byte(*byte))
 }
 
-/// Whether the bytes may stand as a name without quotes.
-fn is_bare(bytes: &[u8]) -> bool
+/// Whether the bytes may stand as a name without quotes: letters, digits, `_`, `.` and `$`, the first no digit.
+pub fn is_bare(bytes: &[u8]) -> bool
     ensures { result ≡ symbol.is_bare bytes.now }
 {
     match bytes {

@@ -17,7 +17,7 @@ mod table;
 pub use lines::push_line_if;
 pub use repeated::repeated_lines;
 pub use reserved::{is_label_name, is_reserved};
-pub use signatures::is_declarable;
+pub use signatures::{is_declarable, is_i32};
 pub use sized::unsized_lines;
 
 #[cfg(test)]

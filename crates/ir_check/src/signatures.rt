@@ -21,7 +21,8 @@ fn is_valued(ty: &Option<TyText>) -> bool
     }
 }
 
-fn is_i32(ty: &Option<TyText>) -> bool
+/// Whether a type is `i32` (LangRef, "Integer Type").
+pub fn is_i32(ty: &Option<TyText>) -> bool
     ensures { result ≡ is_i32 ty.now }
 {
     match ty {

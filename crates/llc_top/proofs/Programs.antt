@@ -8,11 +8,12 @@ use Rattle.std.proofs.lemmas.Bool.{and_parts, or_cases, eqb-true}
 use Rattle.cg_part.specs.Definitions.{has_body}
 use Rattle.cg_part.specs.Meaning.{IsMain}
 use Rattle.cg_part.specs.Program.{function_name}
+use Rattle.ir_check.specs.Signatures.{is_i32, takes_none}
 use Rattle.ir_syntax.specs.Types.{TextTree, int}
 use Rattle.ir_syntax.specs.declared.function.Function.{Function}
 use Rattle.ir_syntax.specs.declared.function.Param.{Param}
 use Rattle.ir_syntax.specs.declared.module.Module.{Module}
-use Rattle.llc_top.specs.Main.{is_defined_main, fits_main, has_main, gives_i32, takes_none}
+use Rattle.llc_top.specs.Main.{is_defined_main, fits_main, has_main}
 
 -- a function that is found as the one to run
 record Found (functions : List Function) : Type 0 where
@@ -38,7 +39,7 @@ find_main (f ∷ functions) any =
       fits = rest.fits;
     }
 
-is_result : (ty : Option TextTree) → gives_i32 ty ≡ true → ty ≡ Some (int 32)
+is_result : (ty : Option TextTree) → is_i32 ty ≡ true → ty ≡ Some (int 32)
 is_result None wrong = absurd (cc)
 is_result (Some (int bits)) right = ap (λ n. Some (int n)) (eqb-true bits 32 right)
 is_result (Some other) wrong = absurd (cc)
@@ -51,7 +52,7 @@ is_empty (param ∷ params) wrong = absurd (cc)
 pub main_is : (m : Module) → has_main m ≡ true → (f : Function) × IsMain m f
 main_is m has =
     let main = find_main m.functions has in
-    let parts = and_parts (gives_i32 main.found.result) (takes_none main.found.params) main.fits in
+    let parts = and_parts (is_i32 main.found.result) (takes_none main.found.params) main.fits in
     let named = and_parts (has_body main.found) (bytes_eq (function_name main.found) (codes "main")) main.is_named in (
       main.found,
       record {

@@ -1,32 +1,19 @@
 -- The function that a run begins with.
-use Rattle.std.specs.Prelude.{◌&&◌, ◌==◌, Bool, true, false, Option, Some, None, List, [], ◌∷◌, bytes_eq, codes}
+use Rattle.std.specs.Prelude.{◌&&◌, Bool, bytes_eq, codes}
 use Rattle.std.specs.List.{list_any}
 use Rattle.cg_part.specs.Program.{function_name}
 use Rattle.cg_part.specs.Definitions.{has_body}
-use Rattle.ir_syntax.specs.Types.{TextTree, int}
+use Rattle.ir_check.specs.Signatures.{is_i32, takes_none}
 use Rattle.ir_syntax.specs.declared.function.Function.{Function}
-use Rattle.ir_syntax.specs.declared.function.Param.{Param}
 use Rattle.ir_syntax.specs.declared.module.Module.{Module}
 
 -- defined, by the name `main`
 abbrev pub is_defined_main : Function → Bool
 is_defined_main f = has_body f && bytes_eq (function_name f) (codes "main")
 
-abbrev pub is_i32 : TextTree → Bool
-is_i32 (int bits) = bits == 32
-is_i32 other = false
-
-abbrev pub gives_i32 : Option TextTree → Bool
-gives_i32 None = false
-gives_i32 (Some ty) = is_i32 ty
-
-abbrev pub takes_none : List Param → Bool
-takes_none [] = true
-takes_none (param ∷ params) = false
-
 -- of type `i32 ()`
 abbrev pub fits_main : Function → Bool
-fits_main f = gives_i32 f.result && takes_none f.params
+fits_main f = is_i32 f.result && takes_none f.params
 
 -- a `main` is defined
 abbrev pub defines_main : Module → Bool

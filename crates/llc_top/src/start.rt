@@ -1,9 +1,10 @@
 //! The function that a run begins with.
 ghost use Rattle.std.specs.Prelude.{◌≡◌, bytes_eq, codes};
 ghost use Rattle.ir_syntax.specs.Names.{name_bytes};
-ghost use Rattle.llc_top.specs.Main.{is_defined_main, gives_i32, takes_none, fits_main, defines_main, has_main};
+ghost use Rattle.llc_top.specs.Main.{is_defined_main, fits_main, defines_main, has_main};
 
-use ir_syntax::{Function, Module, Name, Param, TyText, TypeTree};
+use ir_check::is_i32;
+use ir_syntax::{Function, Module, Name};
 
 /// Whether a `main` is defined.
 pub fn defines_a_main(m: &Module) -> bool
@@ -43,20 +44,5 @@ fn is_called_main(name: &Name) -> bool
 fn fits(function: &Function) -> bool
     ensures { result ≡ fits_main function.now }
 {
-    is_i32(&function.result) & is_none(function.params.as_slice())
-}
-
-fn is_i32(ty: &Option<TyText>) -> bool
-    ensures { result ≡ gives_i32 ty.now }
-{
-    match ty {
-        Some(ty) => matches!(ty.tree(), TypeTree::Int { bits: 32 }),
-        None => false,
-    }
-}
-
-fn is_none(params: &[Param]) -> bool
-    ensures { result ≡ takes_none params.now }
-{
-    matches!(params, [])
+    is_i32(&function.result) & function.params.as_slice().is_empty()
 }

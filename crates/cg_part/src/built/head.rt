@@ -5,7 +5,8 @@ ghost use Rattle.ir_syntax.specs.Names.{name_bytes};
 ghost use Rattle.cg_part.specs.Built.{is_built_name};
 ghost use Rattle.cg_part.specs.Unbuilt.{bits_of, is_built_head, is_default, is_external, is_word};
 
-use crate::symbol::{bytes_of, is_bare};
+use crate::symbol::bytes_of;
+use asm_read::is_bare;
 use ir_check::is_reserved;
 use ir_syntax::{Function, Linkage, Param, TyText, TypeTree, Visibility};
 
