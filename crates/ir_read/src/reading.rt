@@ -78,7 +78,8 @@ fn refused_alloca(alloc: Global, inside: bool, rest: Rest<'_>) -> Result<Refusal
 
 /// The refusal for the first bad token of all, from which on so many are left.
 fn refused_at(alloc: Global, all: Rest<'_>, left: usize) -> Result<Refusal, End>
-    ensures { IfOk result (λ e. read_all modules all.entry ≡ Err left → IsRefusedAt all.entry (length all.entry - left) e) }
+    ensures { IfOk result (λ e. read_all modules all.entry ≡ Err left
+        → IsRefusedAt all.entry (length all.entry - left) e) }
 {
     let line = last_line(all.copy());
     let rest = from_bad(all.copy(), left);
