@@ -7,13 +7,17 @@ ghost use Rattle.rv_isa.specs.Lines.{ended};
 ghost use Rattle.llc_top.specs.Outcome.{refusal_text};
 ghost use Rattle.llc_top.specs.Stops.{stop_text, trap_text};
 
-use cg_io::{Sink, WriteFault, write_all};
+use cg_io::{Sink, write_all};
 use ir_syntax::Refusal;
 use itoa::Buffer;
 use rv_mach::{Stop, TrapKind};
 
+/// A write failed. What the sink got is a first part of what was due.
+#[derive(Clone, Copy, Debug, PartialEq, Eq)]
+pub struct Untold;
+
 /// Tells a refusal: its number, its name and its fields. Of want of memory nothing is told.
-pub fn tell_refusal<E: Sink>(err: &mut E, refusal: Refusal) -> Result<(), WriteFault>
+pub fn tell_refusal<E: Sink>(err: &mut E, refusal: Refusal) -> Result<(), Untold>
     requires { refusal ≢ Refusal.NoMemory }
     ensures all { OnOk result (Appends (E.written err.old) (E.written err.new) (ended (refusal_text refusal))) }
     ensures prefix { AppendsPrefix (E.written err.old) (E.written err.new) (ended (refusal_text refusal)) }
@@ -26,15 +30,15 @@ pub fn tell_refusal<E: Sink>(err: &mut E, refusal: Refusal) -> Result<(), WriteF
         Refusal::Unsupported { line, word } => tell_word(err, line, word.as_slice()),
         Refusal::Form { line } => tell_number(err, b"llc: refused 4 Form ", u64::from(line)),
         Refusal::Name { line } => tell_number(err, b"llc: refused 5 Name ", u64::from(line)),
-        Refusal::NoMain => write_all(err, b"llc: refused 14 NoMain\n"),
-        Refusal::BadMain => write_all(err, b"llc: refused 15 BadMain\n"),
+        Refusal::NoMain => write_piece(err, b"llc: refused 14 NoMain\n"),
+        Refusal::BadMain => write_piece(err, b"llc: refused 15 BadMain\n"),
         Refusal::NotYet { line } => tell_number(err, b"llc: refused 18 NotYet ", u64::from(line)),
         Refusal::NoMemory => unreachable!(),
     }
 }
 
 /// Tells how a run on the machine ended.
-pub fn tell_stop<E: Sink>(err: &mut E, stop: Stop) -> Result<(), WriteFault>
+pub fn tell_stop<E: Sink>(err: &mut E, stop: Stop) -> Result<(), Untold>
     ensures all { OnOk result (Appends (E.written err.old) (E.written err.new) (ended (stop_text stop))) }
     ensures prefix { AppendsPrefix (E.written err.old) (E.written err.new) (ended (stop_text stop)) }
     ensures fault { OnErr result (Rose (E.faults err.old) (E.faults err.new)) }
@@ -42,9 +46,9 @@ pub fn tell_stop<E: Sink>(err: &mut E, stop: Stop) -> Result<(), WriteFault>
 {
     match stop {
         Stop::Exited(code) => tell_number(err, b"exit ", u64::from(code)),
-        Stop::Trapped(kind) => write_all(err, trap_line(kind)),
-        Stop::StackOut => write_all(err, b"stack\n"),
-        Stop::Running => write_all(err, b"running\n"),
+        Stop::Trapped(kind) => write_piece(err, trap_line(kind)),
+        Stop::StackOut => write_piece(err, b"stack\n"),
+        Stop::Running => write_piece(err, b"running\n"),
     }
 }
 
@@ -61,7 +65,7 @@ fn trap_line(kind: TrapKind) -> &'static [u8]
 }
 
 /// Tells that a word is not supported on a line. It takes no memory.
-fn tell_word<E: Sink>(err: &mut E, line: u32, word: &[u8]) -> Result<(), WriteFault>
+fn tell_word<E: Sink>(err: &mut E, line: u32, word: &[u8]) -> Result<(), Untold>
     ensures all { OnOk result (Appends (E.written err.old) (E.written err.new) (ended (refusal_text (Refusal.Unsupported line word.now)))) }
     ensures prefix { AppendsPrefix (E.written err.old) (E.written err.new) (ended (refusal_text (Refusal.Unsupported line word.now))) }
     ensures fault { OnErr result (Rose (E.faults err.old) (E.faults err.new)) }
@@ -71,32 +75,45 @@ fn tell_word<E: Sink>(err: &mut E, line: u32, word: &[u8]) -> Result<(), WriteFa
     let number = digits.format(u64::from(line)).as_bytes();
     write_both(err, b"llc: refused 3 Unsupported ", number)?;
     write_both(err, b" ", word)?;
-    write_all(err, b"\n")?;
+    write_piece(err, b"\n")?;
     Ok(())
 }
 
+/// Writes these bytes.
+fn write_piece<E: Sink>(err: &mut E, bytes: &[u8]) -> Result<(), Untold>
+    ensures all { OnOk result (Appends (E.written err.old) (E.written err.new) bytes.now) }
+    ensures prefix { AppendsPrefix (E.written err.old) (E.written err.new) bytes.now }
+    ensures fault { OnErr result (Rose (E.faults err.old) (E.faults err.new)) }
+    ensures kept { OnOk result (E.faults err.new ≡ E.faults err.old) }
+{
+    match write_all(err, bytes) {
+        Ok(()) => Ok(()),
+        Err(_) => Err(Untold),
+    }
+}
+
 /// Writes these bytes, then those.
-fn write_both<E: Sink>(err: &mut E, first: &[u8], second: &[u8]) -> Result<(), WriteFault>
+fn write_both<E: Sink>(err: &mut E, first: &[u8], second: &[u8]) -> Result<(), Untold>
     ensures all { OnOk result (Appends (E.written err.old) (E.written err.new) (first.now ++ second.now)) }
     ensures prefix { AppendsPrefix (E.written err.old) (E.written err.new) (first.now ++ second.now) }
     ensures fault { OnErr result (Rose (E.faults err.old) (E.faults err.new)) }
     ensures kept { OnOk result (E.faults err.new ≡ E.faults err.old) }
 {
-    write_all(err, first)?;
-    write_all(err, second)?;
+    write_piece(err, first)?;
+    write_piece(err, second)?;
     Ok(())
 }
 
 /// Tells a line that ends in a number. It takes no memory.
-fn tell_number<E: Sink>(err: &mut E, text: &[u8], number: u64) -> Result<(), WriteFault>
+fn tell_number<E: Sink>(err: &mut E, text: &[u8], number: u64) -> Result<(), Untold>
     ensures all { OnOk result (Appends (E.written err.old) (E.written err.new) (ended (text.now ++ decimal number))) }
     ensures prefix { AppendsPrefix (E.written err.old) (E.written err.new) (ended (text.now ++ decimal number)) }
     ensures fault { OnErr result (Rose (E.faults err.old) (E.faults err.new)) }
     ensures kept { OnOk result (E.faults err.new ≡ E.faults err.old) }
 {
     let mut digits = Buffer::new();
-    write_all(err, text)?;
-    write_all(err, digits.format(number).as_bytes())?;
-    write_all(err, b"\n")?;
+    write_piece(err, text)?;
+    write_piece(err, digits.format(number).as_bytes())?;
+    write_piece(err, b"\n")?;
     Ok(())
 }

@@ -39,23 +39,23 @@ returns-in_err-write_both-2-clause-prefix g c =
     (AppendsPrefix-longer _ _ (front c.as_bytes-number.result.now ++ back c.args.word.now) (10 ∷ [])
     (AppendsPrefix-after _ _ _ (front c.as_bytes-number.result.now) (back c.args.word.now) c.in_ok-write_both.ensures.all c.write_both-2.ensures.prefix))
 
-pub returns-in_err-write_all-clause-prefix : goal.returns-in_err-write_all-clause-prefix
-returns-in_err-write_all-clause-prefix g c =
+pub returns-in_err-write_piece-clause-prefix : goal.returns-in_err-write_piece-clause-prefix
+returns-in_err-write_piece-clause-prefix g c =
     part_due _ _ c.as_bytes-number.result.now (decimal c.args.line) c.args.word.now (c.as_bytes-number.ensures.value ∙ c.format.ensures.text ∙ ap decimal c.from.ensures)
     (AppendsPrefix-after _ _ _ (front c.as_bytes-number.result.now ++ back c.args.word.now) (10 ∷ [])
     (Appends-trans _ _ _ (front c.as_bytes-number.result.now) (back c.args.word.now) c.in_ok-write_both.ensures.all c.in_ok-write_both-2.ensures.all)
-    c.write_all.ensures.prefix)
+    c.write_piece.ensures.prefix)
 
 pub returns-clause-all : goal.returns-clause-all
 returns-clause-all g c =
     all_due _ _ c.as_bytes-number.result.now (decimal c.args.line) c.args.word.now (c.as_bytes-number.ensures.value ∙ c.format.ensures.text ∙ ap decimal c.from.ensures)
     (Appends-trans _ _ _ (front c.as_bytes-number.result.now ++ back c.args.word.now) (10 ∷ [])
     (Appends-trans _ _ _ (front c.as_bytes-number.result.now) (back c.args.word.now) c.in_ok-write_both.ensures.all c.in_ok-write_both-2.ensures.all)
-    c.in_ok-write_all.ensures.all)
+    c.in_ok-write_piece.ensures.all)
 
 pub returns-clause-prefix : goal.returns-clause-prefix
 returns-clause-prefix g c =
     part_due _ _ c.as_bytes-number.result.now (decimal c.args.line) c.args.word.now (c.as_bytes-number.ensures.value ∙ c.format.ensures.text ∙ ap decimal c.from.ensures)
     (AppendsPrefix-after _ _ _ (front c.as_bytes-number.result.now ++ back c.args.word.now) (10 ∷ [])
     (Appends-trans _ _ _ (front c.as_bytes-number.result.now) (back c.args.word.now) c.in_ok-write_both.ensures.all c.in_ok-write_both-2.ensures.all)
-    c.write_all.ensures.prefix)
+    c.write_piece.ensures.prefix)
