@@ -6,6 +6,7 @@ mod functions;
 mod globals;
 mod modules;
 mod names;
+mod rows;
 mod tokens;
 mod words;
 
