@@ -1,7 +1,6 @@
 //! The code of a function that returns a constant or one of its arguments.
 ghost use Rattle.std.specs.Prelude.{◌≡◌, ◌+◌, ◌-◌, ◌++◌, ◌∷◌, [], ◌≤◌, ◌<◌, length, pos, Some, OnOk, IfOk, All};
 ghost use Rattle.ir_syntax.specs.Literals.{literal_value};
-ghost use Rattle.ir_syntax.specs.Names.{same_name};
 ghost use Rattle.rv_isa.specs.Encoding.{IsInst, IsSigned12};
 ghost use Rattle.rv_isa.specs.Text.{is_zero};
 ghost use Rattle.cg_part.specs.Built.{IsBuiltFunction, IsBuiltBody, IsBuiltOperand, IsBuiltTerm};
@@ -95,17 +94,7 @@ fn push_parameter(code: &mut Vec<Inst>, params: &[Param], name: &Name) -> Result
 pub fn place_among(name: &Name, params: &[Param]) -> Option<usize>
     ensures { result ≡ place_of name.now params.now }
 {
-    params.iter().position(|param| is_same(&param.name, name))
-}
-
-fn is_same(a: &Name, b: &Name) -> bool
-    ensures { result ≡ same_name a.now b.now }
-{
-    match (a, b) {
-        (Name::Named(a), Name::Named(b)) => a.as_bytes() == b.as_bytes(),
-        (Name::Unnamed(a), Name::Unnamed(b)) => *a == *b,
-        _ => false,
-    }
+    params.iter().position(|param| param.name.is_same(name))
 }
 
 fn immediate_of(literal: Literal) -> i64

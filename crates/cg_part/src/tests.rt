@@ -1,23 +1,23 @@
 //! Modules without text, and what of them is not built.
 use crate::unbuilt;
 use ir_syntax::{
-    Aliases, Functions, Global as Variable, Globals, Linkage, Module, Name, TyText, TypeDefs,
-    Visibility,
+    Aliases, Functions, Global as Variable, Globals, ItemNumber, Linkage, Module, Name, TyText,
+    TypeDefs, Visibility,
 };
-use std::alloc::Global;
+use std::alloc::{AllocError, Global};
 use std::test::Fail;
 
-fn variable(line: u32, number: u32) -> Variable {
-    Variable {
+fn variable(alloc: Global, line: u32, number: u32) -> Result<Variable, AllocError> {
+    Ok(Variable {
         line,
-        name: Name::Unnamed(number),
+        name: Name::Unnamed(ItemNumber::from_count(alloc, number)?),
         linkage: Linkage::External,
         visibility: Visibility::Default,
         constant: false,
         ty: TyText::ptr(),
         init: None,
         align: None,
-    }
+    })
 }
 
 fn module_of(alloc: Global, variables: Vec<Variable>) -> Module {
@@ -34,8 +34,8 @@ fn the_first_variable_is_not_built(rt: HostRuntime) -> Result<(), Fail> {
     let alloc = rt.alloc();
     let mut variables = Vec::new(alloc);
     assert_eq!(rt; unbuilt(alloc, &module_of(alloc, Vec::new(alloc)))?, None);
-    variables.push(variable(7, 0))?;
-    variables.push(variable(9, 1))?;
+    variables.push(variable(alloc, 7, 0)?)?;
+    variables.push(variable(alloc, 9, 1)?)?;
     assert_eq!(rt; unbuilt(alloc, &module_of(alloc, variables))?, Some(7));
     Ok(())
 }

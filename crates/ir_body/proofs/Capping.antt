@@ -1,7 +1,11 @@
 -- Numbers of digits up to a limit, a digit at a time.
-use Rattle.std.proofs.Common.{◌≡◌, ℕ, ◌+◌, ◌-◌, ◌*◌, ◌<◌, ◌≤◌, ◌⊎◌, inl, inr, List, ap, arith, drop, get_or, length, min, sym, ◌∙◌}
+use Rattle.std.proofs.Common.{◌≡◌, ℕ, ◌+◌, ◌-◌, ◌*◌, ◌<◌, ◌≤◌, ◌⊎◌, inl, inr, Bool, true, false, true≢false, refl, List, ap, arith, drop, get_or, length, min, sym, ◌∙◌}
 use Rattle.std.proofs.Math.Nat.{min-eq_left, min-eq_right}
 use Rattle.std.proofs.lemmas.Bool.{cases_lt}
+use Rattle.std.proofs.lemmas.Bool.Decides.{nat_tests}
+use Rattle.std.proofs.lemmas.List.Folds.{list_all_at}
+use Rattle.std.specs.List.{list_all}
+use Rattle.ir_lex.specs.Characters.{is_digit}
 use Rattle.ir_lex.specs.Literals.{decimal_after}
 use Rattle.ir_lex.proofs.Decimals.{decimal_above, decimal_done, decimal_step}
 
@@ -31,3 +35,17 @@ pub all_digits : (limit value : ℕ) (digits : List ℕ) (i whole : ℕ) → len
     → min (decimal_after value (drop i digits)) limit ≡ whole → value ≡ whole
 all_digits limit value digits i whole l fits kept =
     sym (min-eq_left fits) ∙ ap (λ n. min n limit) (sym (decimal_done value digits i l)) ∙ kept
+
+-- each of several digits is one
+digit_at : (digits : List ℕ) (i : ℕ) → list_all is_digit digits ≡ true → i < length digits → is_digit (get_or digits i 0) ≡ true
+digit_at digits i all inside = go (is_digit (get_or digits i 0)) refl
+  where
+    go : (b : Bool) → is_digit (get_or digits i 0) ≡ b → is_digit (get_or digits i 0) ≡ true
+    go true is = is
+    go false is = absurd (true≢false (sym all ∙ list_all_at is_digit digits i 0 inside is))
+
+pub one_digit : (digits : List ℕ) (i : ℕ) → list_all is_digit digits ≡ true → i < length digits → get_or digits i 0 - 48 < 10
+one_digit digits i all inside = let is = digit_at digits i all inside in grind (arith, nat_tests, is)
+
+pub no_less : (digits : List ℕ) (i : ℕ) → list_all is_digit digits ≡ true → i < length digits → 48 ≤ get_or digits i 0
+no_less digits i all inside = let is = digit_at digits i all inside in grind (arith, nat_tests, is)

@@ -1,5 +1,5 @@
 -- Names and numbers as tokens write them (LangRef, "Identifiers" and "Simple Constants").
-use Rattle.std.specs.Prelude.{ℕ, ◌-◌, ◌==◌, min, Option, Some, None, List, drop, take, length, slice_index, if◌then◌else◌}
+use Rattle.std.specs.Prelude.{ℕ, ◌-◌, ◌==◌, Option, Some, None, List, drop, take, length, slice_index, if◌then◌else◌}
 use Rattle.std.specs.List.{list_all}
 use Rattle.ir_lex.specs.Characters.{is_digit}
 use Rattle.ir_lex.specs.Escapes.{unescaped}
@@ -14,15 +14,11 @@ use Rattle.ir_syntax.specs.declared.name.NameUse.{NameUse}
 abbrev pub between_quotes : List ℕ → List ℕ
 between_quotes text = take (length text - 2) (drop 1 text)
 
--- Numbers of names are told apart below this one; no item has so high a number.
-abbrev pub number_limit : ℕ
-number_limit = 4294967295
-
 -- Digits are the number of an unnamed item, a string is the bytes that it stands for, and other
 -- characters are a name as they stand.
 unfoldable pub name_of : List ℕ → Name
 name_of text =
-    if list_all is_digit text then Unnamed (min (decimal_after 0 text) number_limit)
+    if list_all is_digit text then Unnamed (decimal_after 0 text)
     else if slice_index text 0 == 34 then Named (unescaped (between_quotes text))
     else Named text
 

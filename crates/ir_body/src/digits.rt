@@ -1,7 +1,11 @@
 //! Numbers of decimal digits (LangRef, "Identifiers" and "Simple Constants").
-ghost use Rattle.std.specs.Prelude.{◌≡◌, ◌≤◌, ◌^◌, ◌-◌, min};
+ghost use Rattle.std.specs.Prelude.{◌≡◌, ◌≤◌, ◌^◌, ◌-◌, true, min, IfOk};
+ghost use Rattle.std.specs.List.{list_all};
+ghost use Rattle.ir_lex.specs.Characters.{is_digit};
 ghost use Rattle.ir_lex.specs.Literals.{decimal_after};
-ghost use Rattle.ir_body.specs.Names.{number_limit};
+
+use ir_syntax::ItemNumber;
+use std::alloc::{AllocError, Global};
 
 /// The number of these decimal digits, or 2^128 - 1 where it is larger.
 pub(crate) fn decimal(digits: &[u8]) -> u128
@@ -15,11 +19,17 @@ pub(crate) fn decimal(digits: &[u8]) -> u128
     value
 }
 
-/// The number of an unnamed item, or 4294967295 where it is larger.
-pub(crate) fn item_number(digits: &[u8]) -> u32
-    ensures { result ≡ min (decimal_after 0 digits.now) number_limit }
+/// The number of an unnamed item, which these decimal digits write.
+#[tactic(auto, using(crate::proofs::Capping::one_digit, crate::proofs::Capping::no_less))]
+pub(crate) fn item_number(alloc: Global, digits: &[u8]) -> Result<ItemNumber, AllocError>
+    requires { list_all is_digit digits.now ≡ true }
+    ensures { IfOk result (λ number. number ≡ decimal_after 0 digits.now) }
 {
-    decimal(digits).min(u32::MAX as u128) as u32
+    let mut number = ItemNumber::zero(alloc);
+    for digit in digits {
+        number.push_digit(*digit - b'0')?;
+    }
+    Ok(number)
 }
 
 /// The number of digits that write at most 64.

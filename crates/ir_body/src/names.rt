@@ -23,7 +23,7 @@ pub fn name_of(alloc: Global, text: &[u8]) -> Result<Name, AllocError>
     ensures { IfOk result (λ name. name ≡ name_of text.now) }
 {
     if are_digits(text) {
-        return Ok(Name::Unnamed(item_number(text)));
+        return Ok(Name::Unnamed(item_number(alloc, text)?));
     }
     let bytes = if byte_at(text, 0) == b'"' {
         unescaped(alloc, between_quotes(text))?

@@ -13,7 +13,7 @@ enum Wanted {
     /// A name after `%`.
     Named(&'static [u8]),
     /// A number after `%`.
-    Numbered(u32),
+    Numbered(u64),
     /// A literal.
     Literal(Literal),
     /// A type.
@@ -46,11 +46,11 @@ fn is_named<'t>(alloc: Global, rest: Rest<'t>, bytes: &[u8]) -> bool {
     }
 }
 
-fn is_numbered<'t>(alloc: Global, rest: Rest<'t>, wanted: u32) -> bool {
+fn is_numbered<'t>(alloc: Global, rest: Rest<'t>, wanted: u64) -> bool {
     match read_local_name(alloc, rest) {
         Ok((name, _rest)) => match name {
             Name::Named(_name) => false,
-            Name::Unnamed(number) => number == wanted,
+            Name::Unnamed(number) => number.to_u64() == Some(wanted),
             Name::Implicit => false,
         },
         Err(_end) => false,
@@ -147,9 +147,10 @@ fn each_text_is_read(rt: HostRuntime) -> Result<(), Fail> {
         magnitude: u128::MAX,
     };
     let gep = b"ptr getelementptr inbounds ([2 x i8], ptr @a, i64 1, i32 -1)";
-    let table: [(&[u8], Wanted); 21] = [
+    let table: [(&[u8], Wanted); 22] = [
         (b"%00", Wanted::Numbered(0)),
-        (b"%4294967296", Wanted::Numbered(4294967295)),
+        (b"%4294967296", Wanted::Numbered(4294967296)),
+        (b"%00018446744073709551615", Wanted::Numbered(u64::MAX)),
         (b"%0a", Wanted::Named(b"0a")),
         (b"%\"0\"", Wanted::Named(b"0")),
         (b"%\"a\\5Cb\\\\ \"", Wanted::Named(b"a\\b\\ ")),

@@ -1,8 +1,7 @@
 -- Names that are among those before them, one more name at a time.
-use Rattle.std.proofs.Common.{◌≡◌, ◌∙◌, ℕ, ◌+◌, ◌<◌, Bool, true, false, ◌||◌, if◌then◌else◌, Option, None, Some, is_some, List, [], ◌∷◌, ◌++◌, length, take, get_or, refl, sym, ap}
+use Rattle.std.proofs.Common.{◌≡◌, ◌∙◌, ℕ, ◌+◌, ◌<◌, Bool, ◌||◌, List, [], ◌∷◌, ◌++◌, length, take, get_or, sym, ap}
 use Rattle.std.proofs.lemmas.List.{append_assoc, append-nil, take_more}
 use Rattle.std.proofs.lemmas.List.Folds.{list_any_more}
-use Rattle.ir_check.specs.NameMaps.{or_else}
 use Rattle.ir_check.specs.Repeated.{is_among, line_if, repeats, repeats_after}
 use Rattle.ir_syntax.specs.Names.{same_name}
 use Rattle.ir_syntax.specs.declared.name.Name.{Name}
@@ -32,17 +31,11 @@ repeats_more names i n old lines new among inside is before test now =
     taken : (names : List NameUse) (i : ℕ) (n : NameUse) → i < length names → n ≡ get_or names i n → take (i + 1) names ≡ take i names ++ n ∷ []
     taken names i n inside is = take_more names i n inside ∙ ap (λ x. take i names ++ x ∷ []) (sym is)
 
-is_some-or : {A : Type 0} (old : Option A) (same : Bool) (value : A) → is_some (or_else old (if same then Some value else None)) ≡ (is_some old || same)
-is_some-or (Some a) same value = refl
-is_some-or None true value = refl
-is_some-or None false value = refl
-
 -- a name is known after one more name, if it was before or is this one
-pub known_more : {A : Type 0} (names : List NameUse) (i : ℕ) (n : NameUse) (value : A) (name : Name) (old new : Option A) → i < length names → n ≡ get_or names i n →
-    is_some old ≡ is_among (take i names) name → new ≡ or_else old (if same_name name n.name then Some value else None) →
-    is_some new ≡ is_among (take (i + 1) names) name
-known_more names i n value name old new inside is before now =
-    ap is_some now ∙ is_some-or old (same_name name n.name) value
+pub known_more : (names : List NameUse) (i : ℕ) (n : NameUse) (name : Name) (old new : Bool) → i < length names → n ≡ get_or names i n →
+    old ≡ is_among (take i names) name → new ≡ (old || same_name name n.name) → new ≡ is_among (take (i + 1) names) name
+known_more names i n name old new inside is before now =
+    now
     ∙ ap (λ b. b || same_name name n.name) before
     ∙ ap (λ x. is_among (take i names) name || same_name name x.name) is
     ∙ sym (list_any_more (λ x. same_name name x.name) names i n inside)

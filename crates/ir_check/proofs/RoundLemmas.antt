@@ -135,6 +135,12 @@ whole-after defs rounds table next few is made same =
     ap (extents_after defs) at ∙ sym (next-after defs rounds table is) ∙ sym made ∙ same ∙ is.0 in
     (is.0 ∙ sym (stays defs rounds again level_limit (omega (arith, few))), is.1)
 
+-- a type has the extent of the tree that it stands for, by a table of all rounds
+pub measured-by_table : (defs : List TypeDef) (table : Table) (ty : TextTree) → IsTable defs level_limit table → measured (known_by table) level_limit ty ≡ kept (replaced defs level_limit ty)
+measured-by_table defs table ty is =
+    ap (λ known. measured known level_limit ty) (known_by-is defs level_limit table is)
+    ∙ measured-is defs (extents_by defs (extents_after defs level_limit)) ty level_limit (knows-after defs level_limit (omega arith))
+
 -- whether a type has a size, by a table of all rounds
 pub is_some-by_table : (defs : List TypeDef) (table : Table) (ty : TextTree) → IsTable defs level_limit table → is_some (measured (known_by table) level_limit ty) ≡ is_sized defs ty
 is_some-by_table defs table ty is = ap (λ known. is_some (measured known level_limit ty)) (known_by-is defs level_limit table is) ∙ is_some-measured defs ty

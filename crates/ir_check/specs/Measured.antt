@@ -1,12 +1,12 @@
 -- Types measured, where the extents of the named ones are known.
-use Rattle.std.specs.Prelude.{◌≡◌, ℕ, zero, suc, Bool, nat_le, Option, None, Some, IfSome, List, [], ◌∷◌, map, option_map, slice_get, if◌then◌else◌}
+use Rattle.std.specs.Prelude.{◌≡◌, ℕ, zero, suc, Bool, nat_le, Option, None, Some, IfSome, List, [], map, slice_get, if◌then◌else◌}
 use Rattle.std.specs.Option.{option_and_then}
 use Rattle.ir_check.specs.declared.extent.Extent.{Extent}
 use Rattle.ir_check.specs.declared.table.Table.{Table}
 use Rattle.ir_check.specs.Extents.{IsExtent, array_extent, field_extent, integer_extent, limited, no_fields, pointer_extent, struct_extent}
-use Rattle.ir_check.specs.NameMaps.{value_of}
+use Rattle.ir_syntax.specs.NameMaps.{value_of}
+use Rattle.ir_check.specs.Places.{place_by}
 use Rattle.ir_check.specs.Sized.{level_limit}
-use Rattle.ir_syntax.specs.Names.{same_name}
 use Rattle.ir_syntax.specs.Types.{TextTree, int, ptr, array, struct, named, TextTrees, end, more}
 use Rattle.ir_syntax.specs.declared.name.Name.{Name}
 use Rattle.ir_syntax.specs.declared.type_def.TypeDef.{TypeDef}
@@ -46,8 +46,7 @@ body_extent known other = None
 
 -- the place of the first definition of a name
 abbrev pub place_of : List TypeDef → Name → Option ℕ
-place_of [] name = None
-place_of (d ∷ defs) name = if same_name d.name name then Some 0 else option_map (λ place. suc place) (place_of defs name)
+place_of defs name = place_by (λ d. d.name) defs name
 
 -- what a list has at a place, nothing behind its end
 abbrev pub extent_at : List (Option Extent) → ℕ → Option Extent

@@ -1,15 +1,14 @@
 //! Names that are defined twice (LangRef, "Identifiers").
-ghost use Rattle.std.specs.Prelude.{◌≡◌, ◌++◌, None, Some, IfOk, OnOk, is_some, map, if◌then◌else◌};
+ghost use Rattle.std.specs.Prelude.{◌≡◌, ◌++◌, ◌||◌, IfOk, OnOk, map};
 ghost use Rattle.std.specs.List.{flat_map};
+ghost use Rattle.ir_syntax.specs.NameMaps.{has_name};
 ghost use Rattle.ir_syntax.specs.Names.{same_name};
 ghost use Rattle.ir_syntax.specs.declared.name.Name.{Name};
-ghost use Rattle.ir_check.specs.NameMaps.{or_else, value_of};
 ghost use Rattle.ir_check.specs.Repeated.{function_name_at, line_if, local_names, repeated_lines, repeats, type_name};
 
 use crate::defined::{Defined, push_functions, push_locals, push_types};
 use crate::lines::push_line_if;
-use crate::names::NameMap;
-use ir_syntax::{Function, Module, TypeDef};
+use ir_syntax::{Function, Module, NameSet, TypeDef};
 use std::alloc::{AllocError, Global};
 
 /// The lines, from 1, of the items of a module that define a name for the second time: a function's, a type's,
@@ -81,7 +80,7 @@ fn push_repeats(
 ) -> Result<(), AllocError>
     ensures { OnOk result (lines.new.items ≡ lines.old.items ++ repeats names.now) }
 {
-    let mut seen = NameMap::new(alloc);
+    let mut seen = NameSet::new(alloc);
     for defined in names {
         push_if_seen(lines, &seen, defined)?;
         see(&mut seen, defined)?;
@@ -92,18 +91,17 @@ fn push_repeats(
 /// Adds the line of a name if it was seen before.
 fn push_if_seen(
     lines: &mut Vec<u32>,
-    seen: &NameMap<'_, ()>,
+    seen: &NameSet<'_>,
     defined: &Defined<'_>,
 ) -> Result<(), AllocError>
     ensures { OnOk result (lines.new.items
-        ≡ lines.old.items ++ line_if (is_some (value_of seen.now defined.now.name)) defined.now.line) }
+        ≡ lines.old.items ++ line_if (has_name seen.now defined.now.name) defined.now.line) }
 {
-    push_line_if(lines, seen.get(defined.name).is_some(), defined.line)
+    push_line_if(lines, seen.has(defined.name), defined.line)
 }
 
-fn see<'a>(seen: &mut NameMap<'a, ()>, defined: &Defined<'a>) -> Result<(), AllocError>
-    ensures { OnOk result ((other : Name) → value_of seen.new other
-        ≡ or_else (value_of seen.old other) (if same_name other defined.now.name then Some tt else None)) }
+fn see<'a>(seen: &mut NameSet<'a>, defined: &Defined<'a>) -> Result<(), AllocError>
+    ensures { OnOk result ((other : Name) → has_name seen.new other ≡ (has_name seen.old other || same_name other defined.now.name)) }
 {
-    seen.add(defined.name, ())
+    seen.insert(defined.name)
 }

@@ -1,9 +1,9 @@
 //! Names that are defined twice, in small modules.
 use crate::repeated_lines;
 use ir_syntax::{
-    Aliases, Block, Blocks, Function, Functions, Globals, Identifier, Instr, Instrs, Linkage,
-    Module, Name, Op, Operand, Param, Params, Phis, Term, TyText, TypeDef, TypeDefs, TypeTexts,
-    Visibility,
+    Aliases, Block, Blocks, Function, Functions, Globals, Identifier, Instr, Instrs, ItemNumber,
+    Linkage, Module, Name, Op, Operand, Param, Params, Phis, Term, TyText, TypeDef, TypeDefs,
+    TypeTexts, Visibility,
 };
 use std::alloc::{AllocError, Global};
 use std::test::Fail;
@@ -95,7 +95,7 @@ const MODULES: [(&[At], &[Shape], &[u32]); 10] = [
 
 fn name(alloc: Global, written: &str) -> Result<Name, AllocError> {
     match written.parse::<u32>() {
-        Ok(number) => Ok(Name::Unnamed(number)),
+        Ok(number) => Ok(Name::Unnamed(ItemNumber::from_count(alloc, number)?)),
         Err(_) => {
             let bytes = written.as_bytes().to_vec(alloc)?;
             Ok(Name::Named(Identifier::from_vec(bytes)))

@@ -1,6 +1,6 @@
 //! Definitions of types, and which of them have no size.
 use crate::unsized_lines;
-use ir_syntax::{Identifier, Name, NameUse, TyText, TypeDef, TypeDefs, TypeTexts};
+use ir_syntax::{Identifier, ItemNumber, Name, NameUse, TyText, TypeDef, TypeDefs, TypeTexts};
 use std::alloc::{AllocError, Global};
 use std::test::Fail;
 
@@ -15,18 +15,21 @@ enum Field {
     Type(u32),
 }
 
-fn named(line: u32) -> TyText {
-    TyText::named(NameUse {
-        line: 1,
-        name: Name::Unnamed(line),
-    })
+/// The name of the type that the definition at a line defines.
+fn name_at(alloc: Global, line: u32) -> Result<Name, AllocError> {
+    Ok(Name::Unnamed(ItemNumber::from_count(alloc, line)?))
+}
+
+fn named(alloc: Global, line: u32) -> Result<TyText, AllocError> {
+    let name = name_at(alloc, line)?;
+    Ok(TyText::named(NameUse { line: 1, name }))
 }
 
 fn field_type(alloc: Global, field: Field) -> Result<TyText, AllocError> {
     match field {
         Field::Int(bits) => Ok(TyText::int(bits)),
         Field::Ints(len, bits) => TyText::array(alloc, len, TyText::int(bits)),
-        Field::Type(line) => Ok(named(line)),
+        Field::Type(line) => named(alloc, line),
     }
 }
 
@@ -46,7 +49,7 @@ fn lines_of(alloc: Global, bodies: Vec<TyText>) -> Result<Vec<u32>, AllocError> 
         line = line.saturating_add(1);
         defs.push(TypeDef {
             line,
-            name: Name::Unnamed(line),
+            name: name_at(alloc, line)?,
             body,
         })?;
     }

@@ -2,12 +2,11 @@
 ghost use Rattle.std.specs.Prelude.{◌≡◌, IfSome, IfOk};
 ghost use Rattle.ir_check.specs.Extents.{IsExtent};
 ghost use Rattle.ir_check.specs.Measured.{AreExtents, known_by, place_of};
-ghost use Rattle.ir_check.specs.NameMaps.{value_of};
+ghost use Rattle.ir_syntax.specs.NameMaps.{value_of};
 ghost use Rattle.ir_syntax.specs.declared.name.Name.{Name};
 
 use crate::extent::Extent;
-use crate::names::NameMap;
-use ir_syntax::{Name, TypeDef};
+use ir_syntax::{Name, NameMap, TypeDef};
 use std::alloc::{AllocError, Global};
 
 /// The extents of the definitions of types, each found by its name.

@@ -1,24 +1,8 @@
 -- Sets of names after one more.
-use Rattle.std.proofs.Common.{◌≡◌, ◌∙◌, ◌+◌, ℕ, Bool, true, false, cond, ◌&&◌, ◌||◌, nat_eq, ◌<◌, ◌≤◌, zero, suc, length, take, get_or, List, [], ◌∷◌, bytes_eq, refl, sym, ap, arith}
-use Rattle.std.proofs.lemmas.Bool.Decides.{nat_tests}
+use Rattle.std.proofs.Common.{◌≡◌, ◌∙◌, ◌+◌, ℕ, ◌||◌, ◌<◌, ◌≤◌, zero, suc, length, take, get_or, List, [], ◌∷◌, refl, sym, ap, arith}
 use Rattle.std.proofs.lemmas.List.Folds.{list_any_more}
 use Rattle.ir_names.specs.Faults.{is_defined, same_site}
 use Rattle.ir_names.specs.Sites.{Site}
-
-pub nat_eq_turned : (a b : ℕ) → nat_eq a b ≡ nat_eq b a
-nat_eq_turned a b = grind (arith, nat_tests)
-
-pub bytes_eq_turned : (a b : List ℕ) → bytes_eq a b ≡ bytes_eq b a
-bytes_eq_turned [] [] = refl
-bytes_eq_turned [] (y ∷ ys) = refl
-bytes_eq_turned (x ∷ xs) [] = refl
-bytes_eq_turned (x ∷ xs) (y ∷ ys) = λ i. nat_eq_turned x y i && bytes_eq_turned xs ys i
-
-pub or_last : (here there : Bool) → cond here true there ≡ (there || here)
-or_last true true = refl
-or_last true false = refl
-or_last false true = refl
-or_last false false = refl
 
 pub take_whole : {A : Type 0} (xs : List A) (i : ℕ) → length xs ≤ i → take i xs ≡ xs
 take_whole [] zero h = refl

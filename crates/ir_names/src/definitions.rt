@@ -4,17 +4,17 @@ ghost use Rattle.ir_names.specs.Faults.{is_defined, same_site};
 ghost use Rattle.ir_names.specs.Sets.{knows};
 ghost use Rattle.ir_names.specs.Sites.{Site};
 
-use crate::names::Names;
 use crate::site::{Site, Sort};
+use ir_syntax::NameSet;
 use std::alloc::{AllocError, Global};
 
 /// The names of each sort that are defined.
-#[derive(Debug, Drop)]
+#[derive(Drop)]
 pub(crate) struct Definitions<'a> {
-    pub(crate) types: Names<'a>,
-    pub(crate) globals: Names<'a>,
-    pub(crate) values: Names<'a>,
-    pub(crate) blocks: Names<'a>,
+    pub(crate) types: NameSet<'a>,
+    pub(crate) globals: NameSet<'a>,
+    pub(crate) values: NameSet<'a>,
+    pub(crate) blocks: NameSet<'a>,
 }
 
 impl<'a> Definitions<'a> {
@@ -33,10 +33,10 @@ impl<'a> Definitions<'a> {
         ensures { (site : Site) → knows result site ≡ false }
     {
         Definitions {
-            types: Names::new(alloc),
-            globals: Names::new(alloc),
-            values: Names::new(alloc),
-            blocks: Names::new(alloc),
+            types: NameSet::new(alloc),
+            globals: NameSet::new(alloc),
+            values: NameSet::new(alloc),
+            blocks: NameSet::new(alloc),
         }
     }
 

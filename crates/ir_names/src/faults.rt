@@ -94,7 +94,7 @@ fn is_misnumbered(next: u64, site: &Site<'_>) -> bool
     ensures { result ≡ (is_counted site.now.0 && is_other next site.now.1.name) }
 {
     let other = match site.name {
-        Name::Unnamed(number) => u64::from(*number) != next,
+        Name::Unnamed(number) => number.to_u64() != Some(next),
         Name::Named(_) | Name::Implicit => false,
     };
     is_counted(site.sort) & other

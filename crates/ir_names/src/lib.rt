@@ -8,7 +8,6 @@ mod entity;
 mod faults;
 mod items;
 mod least;
-mod names;
 mod numbered;
 mod parts;
 mod resolving;

@@ -1,13 +1,30 @@
 //! The numbers of the unnamed items of a module.
-ghost use Rattle.std.specs.Prelude.{◌≡◌, ◌+◌, IfOk, OnOk, if◌then◌else◌};
+ghost use Rattle.std.specs.Prelude.{◌≡◌, ◌+◌, List, ℕ, IfOk, OnOk, if◌then◌else◌};
 ghost use Rattle.std.specs.List.{flat_map};
 ghost use Rattle.ir_names.specs.Faults.{is_number, unnamed_in};
 ghost use Rattle.ir_names.specs.Items.{block_sites, instr_sites, param_sites, phi_sites, result_sites};
 ghost use Rattle.ir_names.specs.Numbered.{each_numbered, numbered, numbered_block, numbered_blocks, numbered_entities, numbered_entity, numbered_function, numbered_instr, numbered_param, numbered_phi, numbered_result};
+ghost use Rattle.ir_names.specs.Sites.{Site};
 
 use crate::entity::{Entities, Entity};
-use ir_syntax::{Block, Blocks, Function, Instr, Instrs, Name, Param, Params, Phi, Phis};
+use ir_syntax::{
+    Block, Blocks, Function, Instr, Instrs, ItemNumber, Name, Param, Params, Phi, Phis,
+};
 use std::alloc::{AllocError, Global};
+
+/// A part of a function whose unnamed items are counted.
+trait Counted: Sized {
+    /// Where its items are defined.
+    ghost sites: { Self → List Site };
+
+    /// The part behind so many unnamed items, each of its own with a number.
+    ghost numbered: { ℕ → Self → Self };
+
+    /// Gives each item that has no name its number, and counts the unnamed ones.
+    fn number(self, alloc: Global, count: &mut u32) -> Result<Self, AllocError>
+        ensures part { IfOk result (λ new. new ≡ numbered count.old self) }
+        ensures count { OnOk result (count.new ≡ count.old + unnamed_in (sites self)) };
+}
 
 /// These items of a module, with a number for each item of a function that has no name.
 pub(crate) fn number_entities(alloc: Global, entities: Entities) -> Result<Entities, AllocError>
@@ -47,7 +64,7 @@ fn number_function(alloc: Global, function: Function) -> Result<Function, AllocE
         blocks,
     } = function;
     let mut count = 0;
-    let params = number_params(alloc, &mut count, params)?;
+    let params = number_each(alloc, &mut count, params.into_vec())?;
     let blocks = number_body(alloc, count, blocks)?;
     Ok(Function {
         line,
@@ -56,46 +73,152 @@ fn number_function(alloc: Global, function: Function) -> Result<Function, AllocE
         linkage,
         visibility,
         result,
-        params,
+        params: Params::from_vec(params),
         blocks,
     })
 }
 
-#[tactic(auto, using(crate::proofs::Counts::unnamed_append))]
-fn number_params(alloc: Global, count: &mut u32, params: Params) -> Result<Params, AllocError>
-    ensures params { IfOk result (λ new. new ≡ each_numbered numbered_param param_sites count.old params) }
-    ensures count { OnOk result (count.new ≡ count.old + unnamed_in (flat_map param_sites params)) }
+fn number_body(
+    alloc: Global,
+    mut count: u32,
+    blocks: Option<Blocks>,
+) -> Result<Option<Blocks>, AllocError>
+    ensures { IfOk result (λ new. new ≡ numbered_blocks count blocks) }
 {
-    let mut all = Vec::new(alloc);
-    let mut rest = params.into_vec().into_iter();
-    while let Some(param) = rest.next() {
-        all.push(number_param(count, param)?)?;
+    match blocks {
+        Some(blocks) => {
+            let blocks = number_each(alloc, &mut count, blocks.into_vec())?;
+            Ok(Some(Blocks::from_vec(blocks)))
+        }
+        None => Ok(None),
     }
-    Ok(Params::from_vec(all))
+}
+
+/// Parts in their order, each with its numbers behind those before it.
+#[tactic(auto, using(crate::proofs::Counts::unnamed_append))]
+fn number_each<T: Counted + Drop>(
+    alloc: Global,
+    count: &mut u32,
+    parts: Vec<T>,
+) -> Result<Vec<T>, AllocError>
+    ensures parts { IfOk result (λ new. new.items ≡ each_numbered T.numbered T.sites count.old parts.items) }
+    ensures count { OnOk result (count.new ≡ count.old + unnamed_in (flat_map T.sites parts.items)) }
+{
+    let mut all = Vec::with_capacity(alloc, parts.len())?;
+    let mut rest = parts.into_iter();
+    while let Some(part) = rest.next() {
+        all.push(part.number(alloc, count)?)?;
+    }
+    Ok(all)
+}
+
+impl Counted for Param {
+    ghost sites = { param_sites };
+
+    ghost numbered = { numbered_param };
+
+    #[tactic(auto, using(crate::proofs::Counts::one_value))]
+    fn number(self, alloc: Global, count: &mut u32) -> Result<Param, AllocError> {
+        let Param {
+            line,
+            ty,
+            name,
+            name_line,
+        } = self;
+        let name = number(alloc, count, name)?;
+        Ok(Param {
+            line,
+            ty,
+            name,
+            name_line,
+        })
+    }
+}
+
+impl Counted for Block {
+    ghost sites = { block_sites };
+
+    ghost numbered = { numbered_block };
+
+    #[tactic(auto, using(crate::proofs::Counts::one_label, crate::proofs::Counts::unnamed_append))]
+    fn number(self, alloc: Global, count: &mut u32) -> Result<Block, AllocError> {
+        let Block {
+            line,
+            label,
+            phis,
+            instrs,
+            term,
+        } = self;
+        let label = number(alloc, count, label)?;
+        let phis = number_each(alloc, count, phis.into_vec())?;
+        let instrs = number_each(alloc, count, instrs.into_vec())?;
+        Ok(Block {
+            line,
+            label,
+            phis: Phis::from_vec(phis),
+            instrs: Instrs::from_vec(instrs),
+            term,
+        })
+    }
+}
+
+impl Counted for Phi {
+    ghost sites = { phi_sites };
+
+    ghost numbered = { numbered_phi };
+
+    #[tactic(auto, using(crate::proofs::Counts::one_value))]
+    fn number(self, alloc: Global, count: &mut u32) -> Result<Phi, AllocError> {
+        let Phi {
+            line,
+            result,
+            ty,
+            entries,
+        } = self;
+        let result = number(alloc, count, result)?;
+        Ok(Phi {
+            line,
+            result,
+            ty,
+            entries,
+        })
+    }
+}
+
+impl Counted for Instr {
+    ghost sites = { instr_sites };
+
+    ghost numbered = { numbered_instr };
+
+    fn number(self, alloc: Global, count: &mut u32) -> Result<Instr, AllocError> {
+        let Instr { line, result, op } = self;
+        let named = number_result(alloc, count, line, result);
+        named.map(|name| Instr {
+            line,
+            result: name,
+            op,
+        })
+    }
 }
 
 #[tactic(auto, using(crate::proofs::Counts::one_value))]
-fn number_param(count: &mut u32, param: Param) -> Result<Param, AllocError>
-    ensures param { IfOk result (λ new. new ≡ numbered_param count.old param) }
-    ensures count { OnOk result (count.new ≡ count.old + unnamed_in (param_sites param)) }
+fn number_result(
+    alloc: Global,
+    count: &mut u32,
+    line: u32,
+    name: Option<Name>,
+) -> Result<Option<Name>, AllocError>
+    ensures name { IfOk result (λ new. new ≡ numbered_result count.old name) }
+    ensures count { OnOk result (count.new ≡ count.old + unnamed_in (result_sites line name)) }
 {
-    let Param {
-        line,
-        ty,
-        name,
-        name_line,
-    } = param;
-    let name = number(count, name)?;
-    Ok(Param {
-        line,
-        ty,
-        name,
-        name_line,
-    })
+    match name {
+        Some(name) => Ok(Some(number(alloc, count, name)?)),
+        None => Ok(None),
+    }
 }
 
 /// The name of an item behind this many unnamed ones, which it is counted among.
-fn number(count: &mut u32, name: Name) -> Result<Name, AllocError>
+fn number(alloc: Global, count: &mut u32, name: Name) -> Result<Name, AllocError>
     ensures name { IfOk result (λ new. new ≡ numbered count.old name) }
     ensures count { OnOk result (count.new ≡ count.old + (if is_number name then 1 else 0)) }
 {
@@ -106,8 +229,8 @@ fn number(count: &mut u32, name: Name) -> Result<Name, AllocError>
             Ok(Name::Unnamed(number))
         }
         Name::Implicit => {
-            let number = *count;
-            *count = one_more(number)?;
+            let number = ItemNumber::from_count(alloc, *count)?;
+            *count = one_more(*count)?;
             Ok(Name::Unnamed(number))
         }
     }
@@ -120,121 +243,5 @@ fn one_more(count: u32) -> Result<u32, AllocError>
     match count.checked_add(1) {
         Some(more) => Ok(more),
         None => Err(AllocError),
-    }
-}
-
-fn number_body(
-    alloc: Global,
-    count: u32,
-    blocks: Option<Blocks>,
-) -> Result<Option<Blocks>, AllocError>
-    ensures { IfOk result (λ new. new ≡ numbered_blocks count blocks) }
-{
-    match blocks {
-        Some(blocks) => Ok(Some(number_blocks(alloc, count, blocks)?)),
-        None => Ok(None),
-    }
-}
-
-#[tactic(auto, using(crate::proofs::Counts::unnamed_append))]
-fn number_blocks(alloc: Global, first: u32, blocks: Blocks) -> Result<Blocks, AllocError>
-    ensures { IfOk result (λ new. new ≡ each_numbered numbered_block block_sites first blocks) }
-{
-    let mut count = first;
-    let mut all = Vec::new(alloc);
-    let mut rest = blocks.into_vec().into_iter();
-    while let Some(block) = rest.next() {
-        all.push(number_block(alloc, &mut count, block)?)?;
-    }
-    Ok(Blocks::from_vec(all))
-}
-
-#[tactic(auto, using(crate::proofs::Counts::one_label, crate::proofs::Counts::unnamed_append))]
-fn number_block(alloc: Global, count: &mut u32, block: Block) -> Result<Block, AllocError>
-    ensures block { IfOk result (λ new. new ≡ numbered_block count.old block) }
-    ensures count { OnOk result (count.new ≡ count.old + unnamed_in (block_sites block)) }
-{
-    let Block {
-        line,
-        label,
-        phis,
-        instrs,
-        term,
-    } = block;
-    let label = number(count, label)?;
-    let phis = number_phis(alloc, count, phis)?;
-    let instrs = number_instrs(alloc, count, instrs)?;
-    Ok(Block {
-        line,
-        label,
-        phis,
-        instrs,
-        term,
-    })
-}
-
-#[tactic(auto, using(crate::proofs::Counts::unnamed_append))]
-fn number_phis(alloc: Global, count: &mut u32, phis: Phis) -> Result<Phis, AllocError>
-    ensures phis { IfOk result (λ new. new ≡ each_numbered numbered_phi phi_sites count.old phis) }
-    ensures count { OnOk result (count.new ≡ count.old + unnamed_in (flat_map phi_sites phis)) }
-{
-    let mut all = Vec::new(alloc);
-    let mut rest = phis.into_vec().into_iter();
-    while let Some(phi) = rest.next() {
-        all.push(number_phi(count, phi)?)?;
-    }
-    Ok(Phis::from_vec(all))
-}
-
-#[tactic(auto, using(crate::proofs::Counts::one_value))]
-fn number_phi(count: &mut u32, phi: Phi) -> Result<Phi, AllocError>
-    ensures phi { IfOk result (λ new. new ≡ numbered_phi count.old phi) }
-    ensures count { OnOk result (count.new ≡ count.old + unnamed_in (phi_sites phi)) }
-{
-    let Phi {
-        line,
-        result,
-        ty,
-        entries,
-    } = phi;
-    let result = number(count, result)?;
-    Ok(Phi {
-        line,
-        result,
-        ty,
-        entries,
-    })
-}
-
-#[tactic(auto, using(crate::proofs::Counts::unnamed_append))]
-fn number_instrs(alloc: Global, count: &mut u32, instrs: Instrs) -> Result<Instrs, AllocError>
-    ensures instrs { IfOk result (λ new. new ≡ each_numbered numbered_instr instr_sites count.old instrs) }
-    ensures count { OnOk result (count.new ≡ count.old + unnamed_in (flat_map instr_sites instrs)) }
-{
-    let mut all = Vec::new(alloc);
-    let mut rest = instrs.into_vec().into_iter();
-    while let Some(instr) = rest.next() {
-        all.push(number_instr(count, instr)?)?;
-    }
-    Ok(Instrs::from_vec(all))
-}
-
-fn number_instr(count: &mut u32, instr: Instr) -> Result<Instr, AllocError>
-    ensures instr { IfOk result (λ new. new ≡ numbered_instr count.old instr) }
-    ensures count { OnOk result (count.new ≡ count.old + unnamed_in (instr_sites instr)) }
-{
-    let Instr { line, result, op } = instr;
-    let result = number_result(count, line, result)?;
-    Ok(Instr { line, result, op })
-}
-
-#[tactic(auto, using(crate::proofs::Counts::one_value))]
-fn number_result(count: &mut u32, line: u32, name: Option<Name>) -> Result<Option<Name>, AllocError>
-    ensures name { IfOk result (λ new. new ≡ numbered_result count.old name) }
-    ensures count { OnOk result (count.new ≡ count.old + unnamed_in (result_sites line name)) }
-{
-    match name {
-        Some(name) => Ok(Some(number(count, name)?)),
-        None => Ok(None),
     }
 }

@@ -1,6 +1,7 @@
 //! The first block of a function, the one that may allocate (LangRef, "alloca Instruction").
-ghost use Rattle.std.specs.Prelude.{◌≡◌, IfOk};
-ghost use Rattle.ir_read.specs.FirstBlocks.{TellsFirstBlock, stops_in_block};
+ghost use Rattle.std.specs.Prelude.{◌≡◌, true, IfOk};
+ghost use Rattle.ir_body.specs.Blocks.{blocks};
+ghost use Rattle.ir_read.specs.FirstBlocks.{TellsFirstBlock, is_bad, stops_in_block};
 
 use crate::functions::read_opening;
 use crate::top::{begins_entity, read_entity};
@@ -13,11 +14,17 @@ use std::alloc::Global;
 fn stops_in_block(alloc: Global, rest: Rest<'_>) -> Result<bool, End>
     ensures { IfOk result (λ stops. stops ≡ stops_in_block rest.entry) }
 {
-    let rest = match read_opening(alloc, rest) {
-        Ok((_opening, rest)) => rest,
-        Err(End::Bad(_)) => return Ok(false),
-        Err(End::NoMemory) => return Err(End::NoMemory),
-    };
+    match read_opening(alloc, rest) {
+        Ok((_opening, rest)) => begins_no_block(alloc, rest),
+        Err(End::Bad(_)) => Ok(false),
+        Err(End::NoMemory) => Err(End::NoMemory),
+    }
+}
+
+/// Whether no first block is read here.
+fn begins_no_block(alloc: Global, rest: Rest<'_>) -> Result<bool, End>
+    ensures { IfOk result (λ stops. stops ≡ is_bad ((blocks true).read rest.entry)) }
+{
     match read_block(alloc, rest, true) {
         Ok(_) => Ok(false),
         Err(End::Bad(_)) => Ok(true),

@@ -1,2 +1,4 @@
 pub mod Fields
+pub mod NameLemmas
+pub mod NumberLemmas
 pub mod Parts

@@ -3,6 +3,8 @@ pub mod InitCodes
 pub mod InitLists
 pub mod Inits
 pub mod Literals
+pub mod NameMaps
 pub mod Names
+pub mod Numbers
 pub mod TypeCodes
 pub mod Types

@@ -1,6 +1,8 @@
 //! Names of globals, functions, parameters, results, blocks and types (LangRef, "Identifiers").
 ghost use Rattle.std.specs.Prelude.{◌≡◌};
+ghost use Rattle.ir_syntax.specs.Names.{same_name};
 
+use crate::number::ItemNumber;
 use std::marker::Model;
 
 /// The bytes of a name, without its sigil, after its escapes are read. Contracts see a list.
@@ -39,9 +41,22 @@ pub enum Name {
     /// A name of its own.
     Named(Identifier),
     /// Unnamed items are counted from 0, each kind in the order of the text.
-    Unnamed(u32),
+    Unnamed(ItemNumber),
     /// No name is written: such an item takes the next number. A module that was read whole has none.
     Implicit,
+}
+
+impl Name {
+    /// Whether this is the same name. One that is not written yet is no other's.
+    pub fn is_same(&self, other: &Name) -> bool
+        ensures { result ≡ same_name self.now other.now }
+    {
+        match (self, other) {
+            (Name::Named(a), Name::Named(b)) => a.as_bytes() == b.as_bytes(),
+            (Name::Unnamed(a), Name::Unnamed(b)) => a.is_same(b),
+            _ => false,
+        }
+    }
 }
 
 /// A name where it is used: as an operand, a target, a callee, a base or a type.

@@ -8,6 +8,6 @@ loop-defined-preserved c =
     record {
       said = repeats_more c.args.names.now c.loop-defined.defined-index c.defined-item.result _ _ _ _ inside c.defined-item.is
           c.loop-defined.invariant.said (c.loop-defined.invariant.known c.defined-item.result.name) c.in_ok-push_if_seen.ensures;
-      known = λ name. known_more c.args.names.now c.loop-defined.defined-index c.defined-item.result tt name _ _ inside c.defined-item.is
+      known = λ name. known_more c.args.names.now c.loop-defined.defined-index c.defined-item.result name _ _ inside c.defined-item.is
           (c.loop-defined.invariant.known name) (c.in_ok-see.ensures name);
     }

@@ -1,11 +1,11 @@
-use Rattle.std.proofs.Common.{◌≡◌, ◌++◌, take, is_some}
-use Rattle.ir_check.specs.NameMaps.{value_of}
+use Rattle.std.proofs.Common.{◌≡◌, ◌++◌, take}
 use Rattle.ir_check.specs.Repeated.{is_among, repeats}
+use Rattle.ir_syntax.specs.NameMaps.{has_name}
 use Rattle.ir_syntax.specs.declared.name.Name.{Name}
 use Rattle.ir_check.proofs.repeated.push_repeats.Given as goal
 
 abbrev pub invariant-loop-defined : goal.invariant-loop-defined
 invariant-loop-defined l = record {
   said : l.lines.items ≡ l.initial.lines.items ++ repeats (take l.defined-index l.names);
-  known : (name : Name) → is_some (value_of l.seen name) ≡ is_among (take l.defined-index l.names) name;
+  known : (name : Name) → has_name l.seen name ≡ is_among (take l.defined-index l.names) name;
 }

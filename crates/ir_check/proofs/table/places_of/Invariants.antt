@@ -1,6 +1,6 @@
 use Rattle.std.proofs.Common.{◌≡◌, take}
 use Rattle.ir_check.specs.Measured.{place_of}
-use Rattle.ir_check.specs.NameMaps.{value_of}
+use Rattle.ir_syntax.specs.NameMaps.{value_of}
 use Rattle.ir_syntax.specs.declared.name.Name.{Name}
 use Rattle.ir_check.proofs.table.places_of.Given as goal
 

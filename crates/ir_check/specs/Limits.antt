@@ -1,0 +1,19 @@
+-- What a module has too much of.
+use Rattle.std.specs.Prelude.{Option, None, Some, nat_lt, length, if◌then◌else◌}
+use Rattle.std.specs.List.{list_any}
+use Rattle.ir_check.specs.Definitions.{defined_functions}
+use Rattle.ir_check.specs.KeptSizes.{function_size, module_size}
+use Rattle.ir_check.specs.Mentions.{mentioned_places}
+use Rattle.ir_check.specs.declared.limits.Count.{Count}
+use Rattle.ir_check.specs.declared.limits.Count.TheVariants.{Functions, OneFunction, Instructions, Arguments, TypePlaces}
+use Rattle.ir_syntax.specs.declared.module.Module.{Module}
+
+-- the first limit that is exceeded, in this order
+abbrev pub exceeded_limit : Module → Option Count
+exceeded_limit m =
+    if nat_lt 4096 (length (defined_functions m)) then Some Functions
+    else if list_any (λ f. nat_lt 65536 (function_size f)) m.functions then Some OneFunction
+    else if nat_lt 262144 (module_size m) then Some Instructions
+    else if list_any (λ f. nat_lt 64 (length f.params)) m.functions then Some Arguments
+    else if nat_lt 4194304 (mentioned_places m) then Some TypePlaces
+    else None
