@@ -1,9 +1,11 @@
 -- A module in which nothing is not built is a program.
-use Rattle.std.proofs.Common.{◌≡◌, ◌≤◌, ◌++◌, ◌∷◌, [], ℕ, List, Option, Some, None, is_some, Bool, true, false, cond, not, filter, length, map, refl, ap, sym, ◌∙◌}
+use Rattle.std.proofs.Common.{◌≡◌, ◌≤◌, ◌++◌, ◌∷◌, [], ℕ, List, Option, Some, None, is_some, Bool, true, false, true≢false, cond, if◌then◌else◌, not, filter, length, map, refl, ap, sym, ◌∙◌}
 use Rattle.std.specs.Prelude.{nat_lt}
-use Rattle.std.specs.List.{flat_map, list_any, AllByRecursion as ByRecursion}
-use Rattle.std.proofs.lemmas.Bool.{both_ways, ltb-false, not-false, or_left}
+use Rattle.std.specs.List.{flat_map, AllByRecursion as ByRecursion}
+use Rattle.std.proofs.lemmas.Bool.{both_ways, ltb-false, not-false}
 use Rattle.std.proofs.lemmas.List.Elements.{All-from_recursion}
+use Rattle.ir_check.specs.Limits.{exceeded_limit}
+use Rattle.ir_check.specs.declared.limits.Count.TheVariants.{Functions}
 use Rattle.ir_check.specs.Repeated.{function_name_at, line_if, local_names, repeated_lines, repeats, type_name}
 use Rattle.ir_check.specs.Sized.{unsized_lines}
 use Rattle.ir_syntax.specs.declared.block.Block.{Block}
@@ -12,7 +14,7 @@ use Rattle.ir_syntax.specs.declared.module.Module.{Module}
 use Rattle.cg_part.specs.Built.{IsBuiltFunction}
 use Rattle.cg_part.specs.Definitions.{defined_functions, has_body}
 use Rattle.cg_part.specs.Program.{IsProgram}
-use Rattle.cg_part.specs.Unbuilt.{first_unbuilt, has_too_many, is_built_body, is_built_head, item_lines, unbuilt_by, unbuilt_in, unbuilt_lines}
+use Rattle.cg_part.specs.Unbuilt.{first_unbuilt, is_built_body, is_built_head, item_lines, unbuilt_by, unbuilt_in, unbuilt_lines}
 use Rattle.cg_part.proofs.BuiltLemmas.{function_built}
 use Rattle.cg_part.proofs.DistinctNames.{defined_differ}
 use Rattle.cg_part.proofs.NoLines.{no_fault, none_joined, none_least, none_mapped}
@@ -37,15 +39,17 @@ all_built (f ∷ functions) none =
     by_test true here later = (here refl, later)
     by_test false here later = later
 
+chosen : {A : Type 0} (t : Bool) (a : A) (rest : Option A) → t ≡ true → is_some (if t then Some a else rest) ≡ true
+chosen true a rest is = refl
+chosen false a rest is = absurd (true≢false (sym is))
+
 -- a module of too many functions has a line, since it has functions
-is_few : (m : Module) → cond (has_too_many m) (item_lines m) [] ≡ [] → length (defined_functions m) ≤ 4096
+is_few : (m : Module) → cond (is_some (exceeded_limit m)) (item_lines m) [] ≡ [] → length (defined_functions m) ≤ 4096
 is_few m none = by_test (nat_lt 4096 (length (defined_functions m))) refl
   where
     by_test : (t : Bool) → nat_lt 4096 (length (defined_functions m)) ≡ t → length (defined_functions m) ≤ 4096
     by_test true many =
-        let long : Bool = list_any (λ f. nat_lt 64 (length f.params)) m.functions in
-        let too_many : has_too_many m ≡ true = or_left (nat_lt 4096 (length (defined_functions m))) long many in
-        let lines : item_lines m ≡ [] = ap (λ t. cond t (item_lines m) []) (sym too_many) ∙ none in
+        let lines : item_lines m ≡ [] = ap (λ t. cond t (item_lines m) []) (sym (chosen _ Functions _ many)) ∙ none in
         let types : List ℕ = map (λ t. t.line) m.types in
         let variables : List ℕ = map (λ g. g.line) m.globals in
         let functions : List ℕ = map (λ f. f.line) m.functions in
@@ -62,16 +66,16 @@ record HasNoLines (m : Module) : Type 0 where
   aliases : map (λ a. a.line) m.aliases ≡ []
   functions : flat_map unbuilt_in m.functions ≡ []
   names : repeats (map function_name_at m.functions) ≡ []
-  count : cond (has_too_many m) (item_lines m) [] ≡ []
+  count : cond (is_some (exceeded_limit m)) (item_lines m) [] ≡ []
 
 no_lines : (m : Module) → unbuilt_lines m ≡ [] → HasNoLines m
 no_lines m none =
-    let too_many : List ℕ = cond (has_too_many m) (item_lines m) [] in
+    let exceeded : List ℕ = cond (is_some (exceeded_limit m)) (item_lines m) [] in
     let variables = none_joined (map (λ g. g.line) m.globals) _ none in
     let aliases = none_joined (map (λ a. a.line) m.aliases) _ variables.1 in
-    let functions = none_joined (flat_map unbuilt_in m.functions) (unsized_lines m.types ++ (repeated_lines m ++ too_many)) aliases.1 in
-    let types = none_joined (unsized_lines m.types) (repeated_lines m ++ too_many) functions.1 in
-    let repeated = none_joined (repeated_lines m) too_many types.1 in
+    let functions = none_joined (flat_map unbuilt_in m.functions) (unsized_lines m.types ++ (repeated_lines m ++ exceeded)) aliases.1 in
+    let types = none_joined (unsized_lines m.types) (repeated_lines m ++ exceeded) functions.1 in
+    let repeated = none_joined (repeated_lines m) exceeded types.1 in
     let type_names = none_joined (repeats (map type_name m.types)) _ repeated.0 in
     record {
       variables = variables.0;

@@ -1,15 +1,9 @@
 -- The functions of a module that are defined, and those that are declared.
-use Rattle.std.specs.Prelude.{Bool, not, is_some, List}
+use Rattle.std.specs.Prelude.{not, List}
 use Rattle.std.specs.List.{filter}
 use Rattle.ir_syntax.specs.declared.function.Function.{Function}
 use Rattle.ir_syntax.specs.declared.module.Module.{Module}
-
--- a function with a body is defined, one without is declared
-abbrev pub has_body : Function → Bool
-has_body f = is_some f.blocks
-
-abbrev pub defined_functions : Module → List Function
-defined_functions m = filter has_body m.functions
+pub use Rattle.ir_check.specs.Definitions.{has_body, defined_functions}
 
 abbrev pub declared_functions : Module → List Function
 declared_functions m = filter (λ f. not (has_body f)) m.functions

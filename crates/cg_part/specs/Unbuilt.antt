@@ -1,6 +1,7 @@
 -- What of a module is not built today, by its lines.
-use Rattle.std.specs.Prelude.{ℕ, ◌&&◌, ◌||◌, ◌==◌, Bool, true, false, not, nat_le, nat_lt, is_some, min, Option, None, Some, List, [], ◌∷◌, ◌++◌, length, map, if◌then◌else◌}
-use Rattle.std.specs.List.{flat_map, list_all, list_any, reduce}
+use Rattle.std.specs.Prelude.{ℕ, ◌&&◌, ◌||◌, ◌==◌, Bool, true, false, not, nat_le, is_some, min, Option, None, Some, List, [], ◌∷◌, ◌++◌, length, map, if◌then◌else◌}
+use Rattle.std.specs.List.{flat_map, list_all, reduce}
+use Rattle.ir_check.specs.Limits.{exceeded_limit}
 use Rattle.ir_check.specs.Repeated.{line_if, repeated_lines}
 use Rattle.ir_check.specs.Reserved.{is_label_name}
 use Rattle.ir_check.specs.Signatures.{is_declarable}
@@ -22,7 +23,6 @@ use Rattle.ir_syntax.specs.declared.term.Term.{Term}
 use Rattle.ir_syntax.specs.declared.term.Term.TheVariants.{Ret}
 use Rattle.cg_part.specs.Built.{is_built_name}
 use Rattle.cg_part.specs.Code.{place_of}
-use Rattle.cg_part.specs.Definitions.{defined_functions}
 
 abbrev pub is_external : Linkage → Bool
 is_external External = true
@@ -82,21 +82,17 @@ unbuilt_by f (Some (first ∷ more)) = line_if (not (is_built_head f)) f.line ++
 abbrev pub unbuilt_in : Function → List ℕ
 unbuilt_in f = unbuilt_by f f.blocks
 
--- more than 4,096 functions are defined, or one has more than 64 parameters
-abbrev pub has_too_many : Module → Bool
-has_too_many m = nat_lt 4096 (length (defined_functions m)) || list_any (λ f. nat_lt 64 (length f.params)) m.functions
-
 -- the lines of all items
 abbrev pub item_lines : Module → List ℕ
 item_lines m =
     map (λ t. t.line) m.types ++ (map (λ g. g.line) m.globals ++ (map (λ f. f.line) m.functions ++ map (λ a. a.line) m.aliases))
 
 -- the lines of what is not built: variables and aliases, functions of another form, types without a size, and names
--- that are defined again; where the module has too many functions or parameters, all of it
+-- that are defined again; where the module exceeds a limit, all of it
 abbrev pub unbuilt_lines : Module → List ℕ
 unbuilt_lines m =
     map (λ g. g.line) m.globals ++ (map (λ a. a.line) m.aliases ++ (flat_map unbuilt_in m.functions
-    ++ (unsized_lines m.types ++ (repeated_lines m ++ (if has_too_many m then item_lines m else [])))))
+    ++ (unsized_lines m.types ++ (repeated_lines m ++ (if is_some (exceeded_limit m) then item_lines m else [])))))
 
 -- the first of these lines; none where all is built
 abbrev pub first_unbuilt : Module → Option ℕ

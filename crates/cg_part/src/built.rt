@@ -1,16 +1,15 @@
 //! What of a module is not built.
-ghost use Rattle.std.specs.Prelude.{◌≡◌, ◌++◌, None, [], IfOk, OnOk, min, if◌then◌else◌};
+ghost use Rattle.std.specs.Prelude.{◌≡◌, ◌++◌, None, [], IfOk, OnOk, is_some, min, if◌then◌else◌};
 ghost use Rattle.std.specs.List.{reduce};
+ghost use Rattle.ir_check.specs.Limits.{exceeded_limit};
 ghost use Rattle.cg_part.specs.Program.{IsProgram};
-ghost use Rattle.cg_part.specs.Unbuilt.{first_unbuilt, has_too_many, item_lines, unbuilt_lines};
+ghost use Rattle.cg_part.specs.Unbuilt.{first_unbuilt, item_lines, unbuilt_lines};
 
 mod body;
-mod count;
 mod head;
 mod lines;
 
-use count::has_too_many;
-use ir_check::{repeated_lines, unsized_lines};
+use ir_check::{exceeded_limit, repeated_lines, unsized_lines};
 use ir_syntax::Module;
 use lines::{push_aliases, push_functions, push_types, push_unbuilt, push_variables};
 use std::alloc::{AllocError, Global};
@@ -18,8 +17,8 @@ use std::alloc::{AllocError, Global};
 /// The first line, from 1, of what is not built yet; none exactly where all is built.
 ///
 /// Not built are variables and aliases; functions other than those that `program_of` takes; declared functions of types
-/// other than scalars; types without a size; and names that are defined a second time. Where more than 4,096 functions
-/// are defined, or one has more than 64 parameters, nothing is built.
+/// other than scalars; types without a size; and names that are defined a second time. Of a module that exceeds a limit
+/// nothing is built.
 pub fn unbuilt(alloc: Global, m: &Module) -> Result<Option<u32>, AllocError>
     ensures line { IfOk result (λ line. line ≡ first_unbuilt m.now) }
     ensures program { IfOk result (λ line. line ≡ None → IsProgram m.now) }
@@ -43,19 +42,18 @@ fn unbuilt_lines(alloc: Global, m: &Module) -> Result<Vec<u32>, AllocError>
     push_unbuilt(&mut lines, m.functions.as_slice())?;
     lines.extend_from_slice(&unsized_lines(alloc, &m.types)?)?;
     lines.extend_from_slice(&repeated_lines(alloc, m)?)?;
-    push_too_many(&mut lines, m)?;
+    push_if_exceeded(alloc, &mut lines, m)?;
     Ok(lines)
 }
 
-/// Adds the lines of all items of a module that has too many functions or parameters.
-fn push_too_many(lines: &mut Vec<u32>, m: &Module) -> Result<(), AllocError>
+/// Adds the lines of all items of a module that exceeds a limit.
+fn push_if_exceeded(alloc: Global, lines: &mut Vec<u32>, m: &Module) -> Result<(), AllocError>
     ensures { OnOk result (lines.new.items
-        ≡ lines.old.items ++ (if has_too_many m.now then item_lines m.now else [])) }
+        ≡ lines.old.items ++ (if is_some (exceeded_limit m.now) then item_lines m.now else [])) }
 {
-    if has_too_many(m) {
-        push_items(lines, m)
-    } else {
-        Ok(())
+    match exceeded_limit(alloc, m)? {
+        Some(_) => push_items(lines, m),
+        None => Ok(()),
     }
 }
 

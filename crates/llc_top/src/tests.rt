@@ -106,7 +106,7 @@ fn what_the_grammar_drops_changes_no_assembly(rt: HostRuntime) -> Result<(), Fai
 }
 
 /// Texts that are not read, and the line that tells why.
-const UNREAD: [(&[u8], &str); 9] = [
+const UNREAD: [(&[u8], &str); 10] = [
     (b"\xff\xfe\n", "llc: refused 2 Lex 1\n"),
     (
         b"\x01define void @a(<4 x i32> %x) {\n",
@@ -136,6 +136,10 @@ const UNREAD: [(&[u8], &str); 9] = [
     (
         b"define i64 @a(i64 %1) {\n  ret i64 0\n}\n",
         "llc: refused 5 Name 1\n",
+    ),
+    (
+        b"%4294967296 = type { i8 }\n%a = type { %4294967297 }\n",
+        "llc: refused 5 Name 2\n",
     ),
 ];
 
@@ -240,6 +244,29 @@ fn as_many_functions_as_there_may_be_are_compiled(rt: HostRuntime) -> Result<(),
         told.err.as_slice(),
         b"llc: refused 18 NotYet 1\n".as_slice()
     );
+    Ok(())
+}
+
+/// A type, and behind it a function of so many instructions and a terminator.
+fn long_function(alloc: Global, count: u32) -> Result<Vec<u8>, AllocError> {
+    let mut text = Vec::from_slice(alloc, b"%t = type { i8 }\ndefine i64 @a() {\n")?;
+    for _number in 0..count {
+        text.extend_from_slice(b"  add i64 1, 2\n")?;
+    }
+    text.extend_from_slice(b"  ret i64 0\n}\n")?;
+    Ok(text)
+}
+
+#[test]
+fn a_module_beyond_a_limit_is_named_at_its_first_item(rt: HostRuntime) -> Result<(), Fail> {
+    for (count, err) in [
+        (65_535, "llc: refused 18 NotYet 3\n"),
+        (65_536, "llc: refused 18 NotYet 1\n"),
+    ] {
+        let told = compile(&rt, &long_function(rt.alloc(), count)?)?;
+        assert_eq!(rt; told.status, Status::Refused, "{err}");
+        assert_eq!(rt; told.err.as_slice(), err.as_bytes(), "{err}");
+    }
     Ok(())
 }
 
