@@ -19,7 +19,10 @@ fn is_operation(alloc: Global, text: &[u8]) -> bool {
 /// Whether the tokens are an operation of the first block and no more.
 fn is_read<'t>(alloc: Global, rest: Rest<'t>) -> bool {
     match read_entry_op(alloc, rest) {
-        Ok((_op, rest)) => rest.is_empty(),
+        Ok((op, rest)) => {
+            drop(op);
+            rest.is_empty()
+        }
         Err(_end) => false,
     }
 }
