@@ -8,3 +8,6 @@ pub mod Scans
 pub mod Spans
 pub mod Spelled
 pub mod SpelledKinds
+pub mod Starts
+pub mod Plain
+pub mod Fronts

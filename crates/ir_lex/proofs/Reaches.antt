@@ -65,7 +65,7 @@ string_text text rest is =
 pub string_some : (text : List ℕ) → IsString text → 0 < length text
 string_some text is = omega (arith, ap length is.is, length-append is.inner (34 ∷ []))
 
-no_quote : (b : ℕ) → is_name_byte b ≡ true → b == 34 ≡ false
+pub no_quote : (b : ℕ) → is_name_byte b ≡ true → b == 34 ≡ false
 no_quote b is = go (b == 34) refl
   where
     go : (t : Bool) → b == 34 ≡ t → t ≡ false

@@ -18,15 +18,19 @@ spans_push from end [] token h some spans = (omega (arith, h, spans), some, omeg
 spans_push from end (first ∷ tokens) token h some spans =
     (spans.0, spans.1, spans_push (first.start + first.len) end tokens token h some spans.2)
 
+-- the longest token at the front is spelled as its kind says
+pub front_spelled : (bytes : List ℕ) (front : Front) → 0 < front.len → front ≡ front_of bytes → Spells front.kind (take front.len bytes)
+front_spelled bytes front some is =
+    let some : 0 < (front_of bytes).len = subst (λ f. 0 < f.len) is some in
+    let own = len_is_own bytes some in
+    subst (λ f. Spells f.kind (take f.len bytes)) (sym is)
+    (subst (λ n. Spells (front_of bytes).kind (take n bytes)) own
+    (spelled (front_of bytes).kind bytes (subst (λ n. 0 < n) (sym own) some)))
+
 -- the longest token at a place is a token of the text
 pub token_is : (text : List ℕ) (at line : ℕ) (front : Front) → 0 < front.len → front ≡ front_of (drop at text) → line ≡ line_of text at → IsTokenOf text (record { kind = front.kind; start = at; len = front.len; line = line })
 token_is text at line front some is here = record {
-  spelled =
-      let some : 0 < (front_of (drop at text)).len = subst (λ f. 0 < f.len) is some in
-      let own = len_is_own (drop at text) some in
-      subst (λ f. Spells f.kind (take f.len (drop at text))) (sym is)
-      (subst (λ n. Spells (front_of (drop at text)).kind (take n (drop at text))) own
-      (spelled (front_of (drop at text)).kind (drop at text) (subst (λ n. 0 < n) (sym own) some)));
+  spelled = front_spelled (drop at text) front some is;
   longest = λ kind first rest split spells.
       omega (arith, reaches kind first rest spells, ap (λ f. f.len) is, ap (λ xs. (front_of xs).len) split);
   line = here;

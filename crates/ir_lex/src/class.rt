@@ -1,6 +1,6 @@
 //! Classes of bytes.
 ghost use Rattle.std.specs.Prelude.{◌≡◌, ◌≤◌, length};
-ghost use Rattle.ir_lex.specs.Characters.{is_in, run};
+ghost use Rattle.ir_lex.specs.Characters.{is_in, is_name_byte, run};
 
 /// A class of bytes.
 #[derive(Clone, Copy)]
@@ -17,6 +17,24 @@ pub(crate) enum Class {
     Comment,
 }
 
+// Each byte that a name may hold without quotes stands at its own place, and a comma at every other.
+static NAME_BYTES: [u8; 256] = *b"\
+    ,,,,,,,,,,,,,,,,,,,,,,,,,,,,,,,,\
+    ,,,,$,,,,,,,,-.,0123456789,,,,,,\
+    ,ABCDEFGHIJKLMNOPQRSTUVWXYZ,,,,_\
+    ,abcdefghijklmnopqrstuvwxyz,,,,,\
+    ,,,,,,,,,,,,,,,,,,,,,,,,,,,,,,,,\
+    ,,,,,,,,,,,,,,,,,,,,,,,,,,,,,,,,\
+    ,,,,,,,,,,,,,,,,,,,,,,,,,,,,,,,,\
+    ,,,,,,,,,,,,,,,,,,,,,,,,,,,,,,,,";
+
+/// Whether a name may hold a byte without quotes.
+fn is_name_byte(byte: u8) -> bool
+    ensures { result ≡ is_name_byte byte }
+{
+    NAME_BYTES[byte as usize] != b','
+}
+
 impl Class {
     /// Whether a byte is of this class.
     pub(crate) fn holds(self, byte: u8) -> bool
@@ -25,8 +43,7 @@ impl Class {
         match self {
             Class::Digit => byte.is_ascii_digit(),
             Class::Hexadecimal => byte.is_ascii_hexdigit(),
-            Class::Name => byte.is_ascii_alphanumeric()
-                || matches!(byte, b'-' | b'$' | b'.' | b'_'),
+            Class::Name => is_name_byte(byte),
             Class::Quoted => byte != b'"',
             Class::Comment => byte != b'\n',
         }

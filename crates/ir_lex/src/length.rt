@@ -50,7 +50,7 @@ fn content_len(bytes: &[u8]) -> usize
 
 /// Characters of a name or a string, directly followed by `:`.
 #[tactic(auto, unfolding(crate::specs::Lengths::label_len))]
-fn label_len(bytes: &[u8]) -> usize
+pub(crate) fn label_len(bytes: &[u8]) -> usize
     ensures value { result ≡ label_len bytes.now }
     ensures within { result ≤ length bytes.now }
 {
@@ -73,7 +73,7 @@ pub(crate) fn minus_len(bytes: &[u8]) -> usize
 
 /// An optional `-` and digits.
 #[tactic(auto, unfolding(crate::specs::Lengths::int_len))]
-fn int_len(bytes: &[u8]) -> usize
+pub(crate) fn int_len(bytes: &[u8]) -> usize
     ensures value { result ≡ int_len bytes.now }
     ensures within { result ≤ length bytes.now }
 {
@@ -126,13 +126,13 @@ fn exponent_len(bytes: &[u8]) -> usize
     }
 }
 
-/// An integer, a point with digits, and an optional exponent.
+/// An integer of this length, a point with digits, and an optional exponent.
 #[tactic(auto, unfolding(crate::specs::Lengths::decimal_len))]
-fn decimal_len(bytes: &[u8]) -> usize
+fn decimal_after(bytes: &[u8], whole: usize) -> usize
+    requires { whole ≡ int_len bytes.now }
     ensures value { result ≡ decimal_len bytes.now }
     ensures within { result ≤ length bytes.now }
 {
-    let whole = int_len(bytes);
     let point = point_len(rest_of(bytes, whole));
     if whole == 0 || point == 0 {
         return 0;
@@ -168,13 +168,14 @@ fn hexadecimal_len(bytes: &[u8]) -> usize
     }
 }
 
-/// A floating-point literal.
+/// A floating-point literal, where the integer at the front has this length.
 #[tactic(auto, unfolding(crate::specs::Lengths::real_len))]
-fn real_len(bytes: &[u8]) -> usize
+pub(crate) fn real_after(bytes: &[u8], whole: usize) -> usize
+    requires { whole ≡ int_len bytes.now }
     ensures value { result ≡ real_len bytes.now }
     ensures within { result ≤ length bytes.now }
 {
-    match decimal_len(bytes) {
+    match decimal_after(bytes, whole) {
         0 => hexadecimal_len(bytes),
         len => len,
     }
@@ -248,7 +249,7 @@ pub(crate) fn len_of(kind: Kind, bytes: &[u8]) -> usize
     match kind {
         Kind::Label => label_len(bytes),
         Kind::Int => int_len(bytes),
-        Kind::Real => real_len(bytes),
+        Kind::Real => real_after(bytes, int_len(bytes)),
         Kind::Word => word_len(bytes),
         Kind::Str => string_len(bytes),
         Kind::CStr => cstring_len(bytes),

@@ -1,27 +1,13 @@
 //! A text as its tokens.
 ghost use Rattle.std.specs.Prelude.{◌≡◌, ◌≤◌, All, IfOk, length};
-ghost use Rattle.ir_lex.specs.Splitting.{Answers, AreSpans, IsTokenOf, line_feeds, tokens_of};
+ghost use Rattle.ir_lex.specs.Splitting.{Answers, AreSpans, IsTokenOf, tokens_of};
 
+use crate::feed::feeds_of;
 use crate::kind::Token;
 use crate::list::{LexEnd, Tokens};
 use crate::piece::{Piece, piece_of};
-use crate::slice::rest_of;
+use crate::slice::tail_of;
 use std::alloc::Global;
-
-/// How many line feeds there are.
-fn line_feeds(bytes: &[u8]) -> u32
-    requires { length bytes.now ≤ 16777216 }
-    ensures value { result ≡ line_feeds bytes.now }
-    ensures within { result ≤ length bytes.now }
-{
-    let mut count: u32 = 0;
-    for byte in bytes {
-        if *byte == b'\n' {
-            count += 1;
-        }
-    }
-    count
-}
 
 /// The tokens of a text of at most 16,777,216 bytes.
 ///
@@ -39,8 +25,13 @@ pub fn tokens(alloc: Global, bytes: &[u8]) -> Result<Tokens, LexEnd>
     let mut at = 0;
     let mut line: u32 = 1;
     while at < bytes.len() {
-        let rest = rest_of(bytes, at);
-        let len = match piece_of(rest) {
+        if bytes[at] == b' ' {
+            at += 1;
+            continue;
+        }
+        let rest = tail_of(bytes, at);
+        let piece = piece_of(rest);
+        let len = match piece {
             Piece::Gap(len) => len,
             Piece::Begins(front) => {
                 let token = Token {
@@ -56,7 +47,7 @@ pub fn tokens(alloc: Global, bytes: &[u8]) -> Result<Tokens, LexEnd>
             }
             Piece::Bad => return Err(LexEnd::Lex { line }),
         };
-        line += line_feeds(&rest[..len]);
+        line += feeds_of(piece, rest);
         at += len;
     }
     Ok(Tokens::from_vec(tokens))

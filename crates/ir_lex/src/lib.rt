@@ -7,6 +7,7 @@
 
 mod class;
 mod escape;
+mod feed;
 mod front;
 mod kind;
 mod length;
@@ -14,9 +15,9 @@ mod lexer;
 mod list;
 mod literal;
 mod piece;
+mod quote;
 mod slice;
-#[cfg(test)]
-mod tests;
+mod start;
 
 pub use kind::{Kind, Token};
 pub use lexer::tokens;

@@ -23,11 +23,17 @@ fn is_at_most(digits: &[u8], limit: u128) -> bool
     value <= limit
 }
 
+/// So many bytes spell no number that is out of range.
+const SHORT: usize = 19;
+
 /// Whether a literal lies from -2^127 to 2^128 - 1.
 #[tactic(auto, unfolding(crate::specs::Literals::is_in_range, crate::specs::Lengths::minus_len))]
 pub fn is_in_range(text: &[u8]) -> bool
     ensures { result ≡ is_in_range text.now }
 {
+    if text.len() <= SHORT {
+        return true;
+    }
     let minus = minus_len(text);
     let limit = if minus == 1 { 1 << 127 } else { u128::MAX };
     is_at_most(rest_of(text, minus), limit)

@@ -1,5 +1,6 @@
 //! What stands at the front of a text: a gap or a token.
 ghost use Rattle.std.specs.Prelude.{◌≡◌, ◌≤◌, length};
+ghost use Rattle.ir_lex.specs.Spelling.{Spells};
 ghost use Rattle.ir_lex.specs.Splitting.{HasBytes, IsFront, begun, front_of, gap_len, is_refused, piece_len, piece_of};
 
 use crate::class::{Class, run_len};
@@ -7,6 +8,7 @@ use crate::escape::holds_zero;
 use crate::front::{Front, front_of};
 use crate::kind::Kind;
 use crate::literal::is_in_range;
+use crate::quote::is_quoted;
 use crate::slice::byte_at;
 
 /// What stands at the front of a text.
@@ -34,23 +36,25 @@ fn gap_len(bytes: &[u8]) -> usize
 }
 
 /// Whether a token is refused: an integer out of range, or a name that holds byte 0.
-#[tactic(auto, unfolding(crate::specs::Splitting::is_refused))]
+#[tactic(auto, unfolding(crate::specs::Splitting::is_refused), using(crate::proofs::Plain::no_zero))]
 fn is_refused(kind: Kind, text: &[u8]) -> bool
+    requires { Spells kind text.now }
     ensures { result ≡ is_refused kind text.now }
 {
     match kind {
         Kind::Int => !is_in_range(text),
-        Kind::Global | Kind::Local | Kind::Label => holds_zero(text),
+        Kind::Global | Kind::Local | Kind::Label => is_quoted(text) && holds_zero(text),
         _ => false,
     }
 }
 
 /// A token, unless there is none or it is refused.
-#[tactic(auto, unfolding(crate::specs::Splitting::begun))]
+#[tactic(auto, unfolding(crate::specs::Splitting::begun), using(crate::proofs::Spans::front_spelled))]
 fn begun(front: Front, bytes: &[u8]) -> Piece
-    requires { front.len ≤ length bytes.now }
+    requires inside { front.len ≤ length bytes.now }
+    requires longest { front ≡ front_of bytes.now }
     ensures value { result ≡ begun front bytes.now }
-    ensures front { front ≡ front_of bytes.now → IsFront result bytes.now }
+    ensures front { IsFront result bytes.now }
     ensures within { piece_len result ≤ length bytes.now }
     ensures some { HasBytes result }
 {

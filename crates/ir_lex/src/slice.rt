@@ -1,5 +1,5 @@
 //! Bytes at a position.
-ghost use Rattle.std.specs.Prelude.{◌≡◌, ◌<◌, drop, length, slice_index};
+ghost use Rattle.std.specs.Prelude.{◌≡◌, ◌<◌, ◌≤◌, drop, length, slice_index};
 
 /// The byte at a position, or 0 past the end.
 pub(crate) fn byte_at(bytes: &[u8], at: usize) -> u8
@@ -14,4 +14,12 @@ pub(crate) fn rest_of(bytes: &[u8], at: usize) -> &[u8]
     ensures { result.now ≡ drop at bytes.now }
 {
     if at < bytes.len() { &bytes[at..] } else { &[] }
+}
+
+/// What stands from a position in the bytes on.
+pub(crate) fn tail_of(bytes: &[u8], at: usize) -> &[u8]
+    requires { at ≤ length bytes.now }
+    ensures { result.now ≡ drop at bytes.now }
+{
+    &bytes[at..]
 }

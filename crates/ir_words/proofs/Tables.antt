@@ -1,6 +1,6 @@
 -- A word is sought among those that begin as it does.
-use Rattle.std.proofs.Common.{◌≡◌, refl, ap, ℕ, ◌==◌, Bool, true, false, List, [], ◌∷◌, ◌∙◌, slice_index, cond}
-use Rattle.std.proofs.lemmas.Bool.{eq-eqb, false≢true}
+use Rattle.std.proofs.Common.{◌≡◌, refl, ap, ℕ, ◌==◌, Bool, true, false, List, [], ◌∷◌, ◌∙◌, slice_index, cond, length}
+use Rattle.std.proofs.lemmas.Bool.{eq-eqb, false_from_ne_true, false≢true}
 use Rattle.std.proofs.lemmas.Slice.Eq.{bytes_eq-Decides}
 use Rattle.std.specs.Str.{bytes_eq}
 use Rattle.ir_words.specs.Words.{Entry, beginning, looked_up}
@@ -18,3 +18,8 @@ only_beginning byte (entry ∷ table) word other begins =
     left_out (slice_index entry.0 0 == byte) (bytes_eq entry.0 word) entry (beginning byte table) table word other refl
     (λ is. eq-eqb _ _ (ap (λ w. slice_index w 0) ((bytes_eq-Decides entry.0 word).0 is) ∙ begins))
     (only_beginning byte table word other begins)
+
+-- texts of different lengths differ
+pub other_length : (xs ys : List ℕ) → (length xs ≡ length ys → ⊥) → bytes_eq xs ys ≡ false
+other_length xs ys other =
+    false_from_ne_true (bytes_eq xs ys) (λ is. other (ap length ((bytes_eq-Decides xs ys).0 is)))

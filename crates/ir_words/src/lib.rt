@@ -10,8 +10,6 @@ mod quoted;
 mod rest;
 mod slice;
 mod table;
-#[cfg(test)]
-mod tests;
 mod width;
 mod word;
 

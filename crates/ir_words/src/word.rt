@@ -1,5 +1,6 @@
 //! The class of a word (LangRef, "Identifiers").
 ghost use Rattle.std.specs.Prelude.{◌≡◌, map};
+ghost use Rattle.std.specs.Str.{bytes_eq};
 ghost use Rattle.ir_words.specs.Words.{is_int_type, looked_up, word_class, words};
 
 use crate::class::Class;
@@ -10,12 +11,20 @@ use crate::table::{
 };
 use crate::width::{is_digits, is_width};
 
+/// Whether a word is a known one.
+#[tactic(auto, using(crate::proofs::Tables::other_length))]
+fn is_word(known: &[u8], word: &[u8]) -> bool
+    ensures { result ≡ bytes_eq known.now word.now }
+{
+    known.len() == word.len() && known == word
+}
+
 /// The class of a word in a table, or another where the table doesn't have it.
 pub(crate) fn looked_up(mut table: &[(&[u8], Class)], word: &[u8], other: Class) -> Class
     ensures { result ≡ looked_up (map (λ k. (k.0.now, k.1)) table.entry.now) word.now other }
 {
     while let [entry, rest @ ..] = table {
-        if entry.0 == word {
+        if is_word(entry.0, word) {
             return entry.1;
         }
         table = rest;

@@ -1,7 +1,7 @@
-use Rattle.std.proofs.Common.{ap, length, subst, sym, ◌+◌, ◌<◌, ◌≤◌, ◌∙◌, Ok, Err}
-use Rattle.ir_lex.specs.Splitting.{piece_of}
-use Rattle.ir_lex.specs.declared.piece.Piece.TheVariants.{Gap}
-use Rattle.ir_lex.proofs.Keeping.{Kept, kept_begins, kept_first, kept_gap}
+use Rattle.std.proofs.Common.{◌≡◌, ap, length, subst, sym, take, ◌+◌, ◌<◌, ◌≤◌, ◌∙◌, Ok, Err}
+use Rattle.ir_lex.specs.Splitting.{HasBytes, IsFront, line_feeds, piece_len, piece_of}
+use Rattle.ir_lex.specs.declared.piece.Piece.TheVariants.{Begins, Gap}
+use Rattle.ir_lex.proofs.Keeping.{Kept, kept_begins, kept_blank, kept_first, kept_gap}
 use Rattle.ir_lex.proofs.Scans.{all_bad, all_read}
 use Rattle.ir_lex.proofs.lexer.tokens.Goals as goal
 use Rattle.ir_lex.proofs.lexer.tokens.Goals.{in-Gap, in-Begins+in-Ok}
@@ -9,32 +9,46 @@ use Rattle.ir_lex.proofs.lexer.tokens.Goals.{in-Gap, in-Begins+in-Ok}
 pub loop-at-init : goal.loop-at-init
 loop-at-init c = subst (Kept c.args.bytes.now 0 1) (sym c.new-tokens.ensures.items) (kept_first c.args.bytes.now)
 
+pub loop-at-preserved-then-bytes-at-eq32 : goal.loop-at-preserved-then-bytes-at-eq32
+loop-at-preserved-then-bytes-at-eq32 c =
+    kept_blank c.args.bytes.now c.loop-at.at c.loop-at.line c.loop-at.tokens.items c.loop-at.invariant c.loop-at-test.true c.if-bytes-at-eq32.true
+
 pub returns-in-Bad-clause-value : goal.returns-in-Bad-clause-value
 returns-in-Bad-clause-value c =
     sym c.loop-at.invariant.left
     ∙ all_bad c.args.bytes.now c.loop-at.tokens.items c.loop-at.at c.loop-at-test.true
-    (c.in-Bad.ensures.value ∙ ap piece_of c.rest_of-rest.ensures)
+    (sym c.in-Bad.is ∙ c.piece_of-piece.ensures.value ∙ ap piece_of c.tail_of-rest.ensures)
     ∙ ap (λ line. Err line) (sym c.loop-at.invariant.here)
 
 pub loop-at-preserved : goal.loop-at-preserved
 loop-at-preserved c =
     let text = c.args.bytes.now in
     let at = c.loop-at.at in
-    let line = c.loop-at.line + c.line_feeds-line.result in
-    let rest = c.rest_of-rest.result.now in
-    elim c.match-piece_of.branch [
+    let rest = c.tail_of-rest.result.now in
+    let piece = c.piece_of-piece.result in
+    let feeds = c.feeds_of-line.result in
+    let n = c.match-piece.len in
+    elim c.match-piece.branch [
       | in-Gap w ↦
-          subst (λ ts. Kept text (at + c.match-piece_of.len) line ts.items) (sym w.tokens-is)
-          (kept_gap text at c.loop-at.line c.line_feeds-line.result c.match-piece_of.len c.loop-at.tokens.items rest c.loop-at.invariant c.loop-at-test.true
-          (subst (λ n. 0 < n) (sym w.len-is) w.in-Gap.ensures.some) c.rest_of-rest.ensures
-          (subst (λ n. n ≤ length rest) (sym w.len-is) w.in-Gap.ensures.within) c.line_feeds-line.ensures.value c.line_feeds-line.ensures.within
-          (ap (λ n. Gap n) w.len-is ∙ w.in-Gap.ensures.value))
+          let is : piece ≡ Gap n = w.in-Gap.is ∙ ap (λ k. Gap k) (sym w.len-is) in
+          subst (λ ts. Kept text (at + n) (c.loop-at.line + feeds) ts.items) (sym w.tokens-is)
+          (kept_gap text at c.loop-at.line feeds n c.loop-at.tokens.items rest c.loop-at.invariant c.loop-at-test.true
+          (subst HasBytes is c.piece_of-piece.ensures.some) c.tail_of-rest.ensures
+          (subst (λ p. piece_len p ≤ length rest) is c.piece_of-piece.ensures.within)
+          (c.feeds_of-line.ensures.value ∙ ap (λ p. line_feeds (take (piece_len p) rest)) (w.piece-is ∙ ap (λ k. Gap k) (sym w.len-is)))
+          (subst (λ p. feeds ≤ piece_len p) (w.piece-is ∙ ap (λ k. Gap k) (sym w.len-is)) c.feeds_of-line.ensures.within)
+          (sym is ∙ c.piece_of-piece.ensures.value))
       | in-Begins+in-Ok w ↦
-          subst (Kept text (at + c.match-piece_of.len) line) (sym (ap (λ ts. ts.items) w.tokens-is ∙ w.in-Ok.ensures.items))
-          (kept_begins text at c.loop-at.line c.line_feeds-line.result c.match-piece_of.len c.loop-at.tokens.items rest c.loop-at.invariant c.loop-at-test.true
-          (subst (λ n. 0 < n) (sym w.len-is) w.in-Begins.ensures.some) c.rest_of-rest.ensures
-          (subst (λ n. n ≤ length rest) (sym w.len-is) w.in-Begins.ensures.within) c.line_feeds-line.ensures.value c.line_feeds-line.ensures.within
-          w.in-Begins.front (sym w.len-is) w.in-Begins.ensures.value w.in-Begins.ensures.front)
+          let front = w.in-Begins.front in
+          let is : piece ≡ Begins front = w.in-Begins.is in
+          let len : front.len ≡ n = sym w.len-is in
+          subst (Kept text (at + n) (c.loop-at.line + feeds)) (sym (ap (λ ts. ts.items) w.tokens-is ∙ w.in-Ok.ensures.items))
+          (kept_begins text at c.loop-at.line feeds n c.loop-at.tokens.items rest c.loop-at.invariant c.loop-at-test.true
+          (subst (λ k. 0 < k) len (subst HasBytes is c.piece_of-piece.ensures.some)) c.tail_of-rest.ensures
+          (subst (λ k. k ≤ length rest) len (subst (λ p. piece_len p ≤ length rest) is c.piece_of-piece.ensures.within))
+          (c.feeds_of-line.ensures.value ∙ ap (λ p. line_feeds (take (piece_len p) rest)) w.piece-is ∙ ap (λ k. line_feeds (take k rest)) len)
+          (subst (λ k. feeds ≤ k) len (subst (λ p. feeds ≤ piece_len p) w.piece-is c.feeds_of-line.ensures.within))
+          front len (sym is ∙ c.piece_of-piece.ensures.value) (subst (λ p. IsFront p rest) is c.piece_of-piece.ensures.front))
     ]
 
 pub returns-clause-value : goal.returns-clause-value

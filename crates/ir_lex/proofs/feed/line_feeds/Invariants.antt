@@ -1,6 +1,6 @@
 use Rattle.std.proofs.Common.{◌≡◌, ◌≤◌, take}
 use Rattle.ir_lex.specs.Splitting.{line_feeds}
-use Rattle.ir_lex.proofs.lexer.line_feeds.Given as goal
+use Rattle.ir_lex.proofs.feed.line_feeds.Given as goal
 
 abbrev pub invariant-loop-byte : goal.invariant-loop-byte
 invariant-loop-byte l = record {
