@@ -8,7 +8,7 @@ use std::alloc::AllocError;
 use std::marker::Model;
 
 /// A name, and the line of the first token of what it is defined for. Contracts see it as a name that is used.
-#[derive(Debug, Drop)]
+#[derive(Drop)]
 pub(crate) struct Defined<'a> {
     pub(crate) line: u32,
     pub(crate) name: &'a Name,

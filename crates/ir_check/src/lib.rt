@@ -23,12 +23,3 @@ pub use repeated::repeated_lines;
 pub use reserved::{is_label_name, is_reserved};
 pub use signatures::{is_declarable, is_i32};
 pub use sized::unsized_lines;
-
-#[cfg(test)]
-mod limits_tests;
-#[cfg(test)]
-mod mention_tests;
-#[cfg(test)]
-mod repeated_tests;
-#[cfg(test)]
-mod sized_tests;

@@ -67,10 +67,10 @@ fn measured_fields(
 {
     let mut extent = NO_FIELDS;
     let mut rest = fields;
-    while let TypeTreeList::More(head, tail) = rest {
-        let field = measured(table, levels, head)?;
+    while let TypeTreeList::More(node) = rest {
+        let field = measured(table, levels, &node.ty)?;
         extent = field_extent(packed, extent, field)?;
-        rest = tail;
+        rest = &node.tail;
     }
     Some(extent)
 }

@@ -4,11 +4,11 @@ ghost use Rattle.std.specs.List.{flat_map};
 ghost use Rattle.ir_syntax.specs.NameMaps.{has_name};
 ghost use Rattle.ir_syntax.specs.Names.{same_name};
 ghost use Rattle.ir_syntax.specs.declared.name.Name.{Name};
-ghost use Rattle.ir_check.specs.Repeated.{function_name_at, line_if, local_names, repeated_lines, repeats, type_name};
+ghost use Rattle.ir_check.specs.Repeated.{function_name_at, is_among, line_if, local_names, repeated_lines, repeats, type_name};
 
 use crate::defined::{Defined, push_functions, push_locals, push_types};
 use crate::lines::push_line_if;
-use ir_syntax::{Function, Module, NameSet, TypeDef};
+use ir_syntax::{Function, Module, Name, NameSet, TypeDef};
 use std::alloc::{AllocError, Global};
 
 /// The lines, from 1, of the items of a module that define a name for the second time: a function's, a type's,
@@ -72,8 +72,60 @@ fn push_repeated_in(
     push_repeats(alloc, lines, names.as_slice())
 }
 
+/// The most names that are compared with each other: for more of them a set is faster.
+const FEW: usize = 32;
+
 /// Adds the lines of the names that are among those before them.
 fn push_repeats(
+    alloc: Global,
+    lines: &mut Vec<u32>,
+    names: &[Defined<'_>],
+) -> Result<(), AllocError>
+    ensures { OnOk result (lines.new.items ≡ lines.old.items ++ repeats names.now) }
+{
+    if names.len() <= FEW {
+        return push_few_repeats(lines, names);
+    }
+    push_many_repeats(alloc, lines, names)
+}
+
+/// Adds the lines of the names that are among those before them, by comparing each with these.
+fn push_few_repeats(lines: &mut Vec<u32>, names: &[Defined<'_>]) -> Result<(), AllocError>
+    ensures { OnOk result (lines.new.items ≡ lines.old.items ++ repeats names.now) }
+{
+    for place in 0..names.len() {
+        push_if_among(lines, &names[..place], &names[place])?;
+    }
+    Ok(())
+}
+
+/// Adds the line of a name if it is among those before it.
+fn push_if_among(
+    lines: &mut Vec<u32>,
+    before: &[Defined<'_>],
+    defined: &Defined<'_>,
+) -> Result<(), AllocError>
+    ensures { OnOk result (lines.new.items
+        ≡ lines.old.items ++ line_if (is_among before.now defined.now.name) defined.now.line) }
+{
+    push_line_if(lines, is_among(before, defined.name), defined.line)
+}
+
+/// Whether a name is one of these.
+fn is_among(names: &[Defined<'_>], name: &Name) -> bool
+    ensures { result ≡ is_among names.now name.now }
+{
+    names.iter().any(|defined| is_name_of(defined, name))
+}
+
+fn is_name_of(defined: &Defined<'_>, name: &Name) -> bool
+    ensures { result ≡ same_name name.now defined.now.name }
+{
+    name.is_same(defined.name)
+}
+
+/// Adds the lines of the names that are among those before them, by a set of these.
+fn push_many_repeats(
     alloc: Global,
     lines: &mut Vec<u32>,
     names: &[Defined<'_>],

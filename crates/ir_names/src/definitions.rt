@@ -9,12 +9,26 @@ use ir_syntax::NameSet;
 use std::alloc::{AllocError, Global};
 
 /// The names of each sort that are defined.
-#[derive(Drop)]
 pub(crate) struct Definitions<'a> {
     pub(crate) types: NameSet<'a>,
     pub(crate) globals: NameSet<'a>,
     pub(crate) values: NameSet<'a>,
     pub(crate) blocks: NameSet<'a>,
+}
+
+impl<'a> Drop for Definitions<'a> {
+    fn drop(self) {
+        let Definitions {
+            types,
+            globals,
+            values,
+            blocks,
+        } = self;
+        drop(types);
+        drop(globals);
+        drop(values);
+        drop(blocks);
+    }
 }
 
 impl<'a> Definitions<'a> {

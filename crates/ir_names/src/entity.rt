@@ -5,7 +5,7 @@ use ir_syntax::{Alias, Function, Global, TypeDef};
 use std::marker::Model;
 
 /// An item at the top of a module that is kept (LangRef, "Module Structure").
-#[derive(Debug, Drop)]
+#[derive(Drop)]
 pub enum Entity {
     /// A named type.
     Type(TypeDef),
@@ -18,7 +18,7 @@ pub enum Entity {
 }
 
 /// The items of a module in the order of the text. Contracts see a list.
-#[derive(Debug, Drop)]
+#[derive(Drop)]
 pub struct Entities {
     entities: Vec<Entity>,
 }

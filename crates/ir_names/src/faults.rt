@@ -63,10 +63,20 @@ fn use_fault(defined: &Definitions<'_>, own: &Definitions<'_>, uses: &[Site<'_>]
 {
     let mut first = None;
     for site in uses {
-        let known = defined.has(site) | own.has(site);
+        let known = is_known(defined, own, site);
         first = earlier(first, line_where(!known, site));
     }
     first
+}
+
+/// Whether one of the two knows the name of a site. A function's own names are looked for in it first.
+fn is_known(defined: &Definitions<'_>, own: &Definitions<'_>, site: &Site<'_>) -> bool
+    ensures { result ≡ (knows defined.now site.now || knows own.now site.now) }
+{
+    match site.sort {
+        Sort::Value | Sort::Block => own.has(site) || defined.has(site),
+        Sort::NamedType | Sort::Global => defined.has(site) || own.has(site),
+    }
 }
 
 /// The least line of a number that is not the next one.

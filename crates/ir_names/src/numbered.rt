@@ -11,6 +11,7 @@ use ir_syntax::{
     Block, Blocks, Function, Instr, Instrs, ItemNumber, Name, Param, Params, Phi, Phis,
 };
 use std::alloc::{AllocError, Global};
+use std::mem;
 
 /// A part of a function whose unnamed items are counted.
 trait Counted: Sized {
@@ -21,95 +22,85 @@ trait Counted: Sized {
     ghost numbered: { ℕ → Self → Self };
 
     /// Gives each item that has no name its number, and counts the unnamed ones.
-    fn number(self, alloc: Global, count: &mut u32) -> Result<Self, AllocError>
-        ensures part { IfOk result (λ new. new ≡ numbered count.old self) }
-        ensures count { OnOk result (count.new ≡ count.old + unnamed_in (sites self)) };
+    fn number(&mut self, alloc: Global, count: &mut u32) -> Result<(), AllocError>
+        ensures part { OnOk result (self.new ≡ numbered count.old self.old) }
+        ensures count { OnOk result (count.new ≡ count.old + unnamed_in (sites self.old)) };
 }
 
 /// These items of a module, with a number for each item of a function that has no name.
 pub(crate) fn number_entities(alloc: Global, entities: Entities) -> Result<Entities, AllocError>
     ensures { IfOk result (λ new. new ≡ numbered_entities entities) }
 {
-    let mut all = Vec::new(alloc);
-    let mut rest = entities.into_vec().into_iter();
-    while let Some(entity) = rest.next() {
-        all.push(number_entity(alloc, entity)?)?;
-    }
+    let mut all = entities.into_vec();
+    number_each_entity(alloc, all.as_mut_slice())?;
     Ok(Entities::from_vec(all))
 }
 
-fn number_entity(alloc: Global, entity: Entity) -> Result<Entity, AllocError>
-    ensures { IfOk result (λ new. new ≡ numbered_entity entity) }
+fn number_each_entity(alloc: Global, entities: &mut [Entity]) -> Result<(), AllocError>
+    ensures { OnOk result (entities.new ≡ numbered_entities entities.old) }
+{
+    for entity in entities.iter_mut() {
+        number_entity(alloc, entity)?;
+    }
+    Ok(())
+}
+
+fn number_entity(alloc: Global, entity: &mut Entity) -> Result<(), AllocError>
+    ensures { OnOk result (entity.new ≡ numbered_entity entity.old) }
 {
     match entity {
-        Entity::Type(ty) => Ok(Entity::Type(ty)),
-        Entity::Global(global) => Ok(Entity::Global(global)),
-        Entity::Function(function) => Ok(Entity::Function(number_function(alloc, function)?)),
-        Entity::Alias(alias) => Ok(Entity::Alias(alias)),
+        Entity::Function(function) => number_function(alloc, function),
+        Entity::Type(_) | Entity::Global(_) | Entity::Alias(_) => Ok(()),
     }
 }
 
-/// The function with a number for each item that has no name.
-fn number_function(alloc: Global, function: Function) -> Result<Function, AllocError>
-    ensures { IfOk result (λ new. new ≡ numbered_function function) }
+/// Gives each item of a function that has no name its number.
+fn number_function(alloc: Global, function: &mut Function) -> Result<(), AllocError>
+    ensures { OnOk result (function.new ≡ numbered_function function.old) }
 {
-    let Function {
-        line,
-        name,
-        name_line,
-        linkage,
-        visibility,
-        result,
-        params,
-        blocks,
-    } = function;
     let mut count = 0;
-    let params = number_each(alloc, &mut count, params.into_vec())?;
-    let blocks = number_body(alloc, count, blocks)?;
-    Ok(Function {
-        line,
-        name,
-        name_line,
-        linkage,
-        visibility,
-        result,
-        params: Params::from_vec(params),
-        blocks,
-    })
+    let params = mem::replace(&mut function.params, Params::from_vec(Vec::new(alloc)));
+    let params = number_all(alloc, &mut count, params.into_vec())?;
+    function.params = Params::from_vec(params);
+    number_body(alloc, count, &mut function.blocks)
 }
 
-fn number_body(
-    alloc: Global,
-    mut count: u32,
-    blocks: Option<Blocks>,
-) -> Result<Option<Blocks>, AllocError>
-    ensures { IfOk result (λ new. new ≡ numbered_blocks count blocks) }
+fn number_body(alloc: Global, mut count: u32, blocks: &mut Option<Blocks>) -> Result<(), AllocError>
+    ensures { OnOk result (blocks.new ≡ numbered_blocks count blocks.old) }
 {
-    match blocks {
-        Some(blocks) => {
-            let blocks = number_each(alloc, &mut count, blocks.into_vec())?;
-            Ok(Some(Blocks::from_vec(blocks)))
-        }
-        None => Ok(None),
+    if let Some(body) = blocks.take() {
+        let body = number_all(alloc, &mut count, body.into_vec())?;
+        *blocks = Some(Blocks::from_vec(body));
     }
+    Ok(())
 }
 
 /// Parts in their order, each with its numbers behind those before it.
-#[tactic(auto, using(crate::proofs::Counts::unnamed_append))]
-fn number_each<T: Counted + Drop>(
+fn number_all<T: Counted + Drop>(
     alloc: Global,
     count: &mut u32,
-    parts: Vec<T>,
+    mut parts: Vec<T>,
 ) -> Result<Vec<T>, AllocError>
     ensures parts { IfOk result (λ new. new.items ≡ each_numbered T.numbered T.sites count.old parts.items) }
     ensures count { OnOk result (count.new ≡ count.old + unnamed_in (flat_map T.sites parts.items)) }
 {
-    let mut all = Vec::with_capacity(alloc, parts.len())?;
-    let mut rest = parts.into_iter();
-    while let Some(part) = rest.next() {
-        all.push(part.number(alloc, count)?)?;
+    number_each(alloc, count, parts.as_mut_slice())?;
+    Ok(parts)
+}
+
+/// Numbers parts in their order, each behind those before it.
+fn number_each<T: Counted>(
+    alloc: Global,
+    count: &mut u32,
+    parts: &mut [T],
+) -> Result<(), AllocError>
+    ensures parts { OnOk result (parts.new ≡ each_numbered T.numbered T.sites count.old parts.old) }
+    ensures count { OnOk result (count.new ≡ count.old + unnamed_in (flat_map T.sites parts.old)) }
+{
+    for part in parts.iter_mut() {
+        part.number(alloc, count)?;
     }
-    Ok(all)
+    Ok(())
 }
 
 impl Counted for Param {
@@ -118,20 +109,8 @@ impl Counted for Param {
     ghost numbered = { numbered_param };
 
     #[tactic(auto, using(crate::proofs::Counts::one_value))]
-    fn number(self, alloc: Global, count: &mut u32) -> Result<Param, AllocError> {
-        let Param {
-            line,
-            ty,
-            name,
-            name_line,
-        } = self;
-        let name = number(alloc, count, name)?;
-        Ok(Param {
-            line,
-            ty,
-            name,
-            name_line,
-        })
+    fn number(&mut self, _alloc: Global, count: &mut u32) -> Result<(), AllocError> {
+        number(count, &mut self.name)
     }
 }
 
@@ -141,24 +120,15 @@ impl Counted for Block {
     ghost numbered = { numbered_block };
 
     #[tactic(auto, using(crate::proofs::Counts::one_label, crate::proofs::Counts::unnamed_append))]
-    fn number(self, alloc: Global, count: &mut u32) -> Result<Block, AllocError> {
-        let Block {
-            line,
-            label,
-            phis,
-            instrs,
-            term,
-        } = self;
-        let label = number(alloc, count, label)?;
-        let phis = number_each(alloc, count, phis.into_vec())?;
-        let instrs = number_each(alloc, count, instrs.into_vec())?;
-        Ok(Block {
-            line,
-            label,
-            phis: Phis::from_vec(phis),
-            instrs: Instrs::from_vec(instrs),
-            term,
-        })
+    fn number(&mut self, alloc: Global, count: &mut u32) -> Result<(), AllocError> {
+        number(count, &mut self.label)?;
+        let phis = mem::replace(&mut self.phis, Phis::from_vec(Vec::new(alloc)));
+        let phis = number_all(alloc, count, phis.into_vec())?;
+        self.phis = Phis::from_vec(phis);
+        let instrs = mem::replace(&mut self.instrs, Instrs::from_vec(Vec::new(alloc)));
+        let instrs = number_all(alloc, count, instrs.into_vec())?;
+        self.instrs = Instrs::from_vec(instrs);
+        Ok(())
     }
 }
 
@@ -168,20 +138,8 @@ impl Counted for Phi {
     ghost numbered = { numbered_phi };
 
     #[tactic(auto, using(crate::proofs::Counts::one_value))]
-    fn number(self, alloc: Global, count: &mut u32) -> Result<Phi, AllocError> {
-        let Phi {
-            line,
-            result,
-            ty,
-            entries,
-        } = self;
-        let result = number(alloc, count, result)?;
-        Ok(Phi {
-            line,
-            result,
-            ty,
-            entries,
-        })
+    fn number(&mut self, _alloc: Global, count: &mut u32) -> Result<(), AllocError> {
+        number(count, &mut self.result)
     }
 }
 
@@ -190,50 +148,35 @@ impl Counted for Instr {
 
     ghost numbered = { numbered_instr };
 
-    fn number(self, alloc: Global, count: &mut u32) -> Result<Instr, AllocError> {
-        let Instr { line, result, op } = self;
-        let named = number_result(alloc, count, line, result);
-        named.map(|name| Instr {
-            line,
-            result: name,
-            op,
-        })
+    fn number(&mut self, _alloc: Global, count: &mut u32) -> Result<(), AllocError> {
+        number_result(count, self.line, &mut self.result)
     }
 }
 
 #[tactic(auto, using(crate::proofs::Counts::one_value))]
-fn number_result(
-    alloc: Global,
-    count: &mut u32,
-    line: u32,
-    name: Option<Name>,
-) -> Result<Option<Name>, AllocError>
-    ensures name { IfOk result (λ new. new ≡ numbered_result count.old name) }
-    ensures count { OnOk result (count.new ≡ count.old + unnamed_in (result_sites line name)) }
+fn number_result(count: &mut u32, line: u32, name: &mut Option<Name>) -> Result<(), AllocError>
+    ensures name { OnOk result (name.new ≡ numbered_result count.old name.old) }
+    ensures count { OnOk result (count.new ≡ count.old + unnamed_in (result_sites line name.old)) }
 {
     match name {
-        Some(name) => Ok(Some(number(alloc, count, name)?)),
-        None => Ok(None),
+        Some(name) => number(count, name),
+        None => Ok(()),
     }
 }
 
-/// The name of an item behind this many unnamed ones, which it is counted among.
-fn number(alloc: Global, count: &mut u32, name: Name) -> Result<Name, AllocError>
-    ensures name { IfOk result (λ new. new ≡ numbered count.old name) }
-    ensures count { OnOk result (count.new ≡ count.old + (if is_number name then 1 else 0)) }
+/// Numbers the name of an item behind this many unnamed ones, which it is counted among.
+fn number(count: &mut u32, name: &mut Name) -> Result<(), AllocError>
+    ensures name { OnOk result (name.new ≡ numbered count.old name.old) }
+    ensures count { OnOk result (count.new ≡ count.old + (if is_number name.old then 1 else 0)) }
 {
+    let before = *count;
     match name {
-        Name::Named(bytes) => Ok(Name::Named(bytes)),
-        Name::Unnamed(number) => {
-            *count = one_more(*count)?;
-            Ok(Name::Unnamed(number))
-        }
-        Name::Implicit => {
-            let number = ItemNumber::from_count(alloc, *count)?;
-            *count = one_more(*count)?;
-            Ok(Name::Unnamed(number))
-        }
+        Name::Named(_) => return Ok(()),
+        Name::Unnamed(_) => {}
+        Name::Implicit => *name = Name::Unnamed(ItemNumber::from_u64(u64::from(before))),
     }
+    *count = one_more(before)?;
+    Ok(())
 }
 
 /// One more; where there are too many unnamed items to count them, there is no memory for them.

@@ -9,7 +9,7 @@ use ir_syntax::{
 use std::alloc::{AllocError, Global};
 
 /// What is put together of a module, each kind in the order of the text.
-#[derive(Debug, Drop)]
+#[derive(Drop)]
 pub(crate) struct Parts {
     pub(crate) types: Vec<TypeDef>,
     pub(crate) globals: Vec<Variable>,

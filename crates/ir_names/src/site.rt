@@ -19,7 +19,7 @@ pub enum Sort {
 }
 
 /// A place where a name is defined or used. Contracts see its sort, and its line and name as those of a use.
-#[derive(Debug, Drop)]
+#[derive(Drop)]
 pub(crate) struct Site<'a> {
     pub(crate) sort: Sort,
     pub(crate) line: u32,

@@ -33,4 +33,4 @@ abbrev mutual
 
   pub inits_in : InitTreeList → InitTexts
   inits_in End = end
-  inits_in (More' ty p init q tail) = more ty (init_of init) (inits_in tail)
+  inits_in (More' p ty init tail) = more ty (init_of init) (inits_in tail)

@@ -6,5 +6,6 @@ pub mod Literals
 pub mod NameMaps
 pub mod Names
 pub mod Numbers
+pub mod Spellings
 pub mod TypeCodes
 pub mod Types

@@ -2,7 +2,7 @@
 use Rattle.std.specs.Prelude.{ℕ, Bool, List, [], ◌∷◌}
 use Rattle.ir_syntax.specs.declared.name.NameUse.{NameUse}
 use Rattle.ir_syntax.specs.declared.tree.TypeTree.{TypeTree}
-use Rattle.ir_syntax.specs.declared.tree.TypeTree.TheVariants.{Int, Ptr, Array', Struct, Named}
+use Rattle.ir_syntax.specs.declared.tree.TypeTree.TheVariants.{Int, Ptr, Array', Struct', Named}
 use Rattle.ir_syntax.specs.declared.tree.TypeTreeList.{TypeTreeList}
 use Rattle.ir_syntax.specs.declared.tree.TypeTreeList.TheVariants.{End, More'}
 
@@ -25,12 +25,12 @@ abbrev mutual
   tree_of (Int bits) = int bits
   tree_of Ptr = ptr
   tree_of (Array' len p elem) = array len (tree_of elem)
-  tree_of (Struct packed fields) = struct packed (trees_in fields)
-  tree_of (Named name) = named name
+  tree_of (Struct' packed p fields) = struct packed (trees_in fields)
+  tree_of (Named name) = named name.value
 
   pub trees_in : TypeTreeList → TextTrees
   trees_in End = end
-  trees_in (More' p head q tail) = more (tree_of head) (trees_in tail)
+  trees_in (More' p ty tail) = more (tree_of ty) (trees_in tail)
 
 -- the types of a list as those of fields
 abbrev pub trees_from : List TextTree → TextTrees

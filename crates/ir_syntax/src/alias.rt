@@ -8,7 +8,6 @@ use crate::ty::{TyText, TypeTexts};
 use std::marker::Model;
 
 /// What an alias stands for.
-#[derive(Debug, Drop)]
 pub enum AliasBase {
     /// A global name.
     Global(NameUse),
@@ -16,8 +15,16 @@ pub enum AliasBase {
     Gep(ConstantGep),
 }
 
+impl Drop for AliasBase {
+    fn drop(self) {
+        match self {
+            AliasBase::Global(used) => drop(used),
+            AliasBase::Gep(gep) => drop(gep),
+        }
+    }
+}
+
 /// A second name of an address.
-#[derive(Debug, Drop)]
 pub struct Alias {
     /// The line of its first token.
     pub line: u32,
@@ -35,8 +42,26 @@ pub struct Alias {
     pub base: AliasBase,
 }
 
+impl Drop for Alias {
+    fn drop(self) {
+        let Alias {
+            name,
+            result,
+            params,
+            base,
+            line: _,
+            linkage: _,
+            visibility: _,
+        } = self;
+        drop(name);
+        drop(result);
+        drop(params);
+        drop(base);
+    }
+}
+
 /// The aliases of a module in the order of the text. Contracts see a list.
-#[derive(Debug, Drop)]
+#[derive(Drop)]
 pub struct Aliases {
     aliases: Vec<Alias>,
 }
@@ -55,10 +80,11 @@ impl Model for Aliases {
 }
 
 impl Aliases {
-    /// These aliases, in their order.
-    pub fn from_vec(aliases: Vec<Alias>) -> Aliases
+    /// These aliases, in their order, with no room for more.
+    pub fn from_vec(mut aliases: Vec<Alias>) -> Aliases
         ensures { result ≡ aliases.items }
     {
+        aliases.shrink_to_fit();
         Aliases { aliases }
     }
 

@@ -8,7 +8,7 @@ use crate::term::Term;
 use std::marker::Model;
 
 /// A basic block.
-#[derive(Debug, Drop)]
+#[derive(Drop)]
 pub struct Block {
     /// The line of the block's first token.
     pub line: u32,
@@ -23,7 +23,7 @@ pub struct Block {
 }
 
 /// The blocks of a function in the order of the text, the entry first. Contracts see a list.
-#[derive(Debug, Drop)]
+#[derive(Drop)]
 pub struct Blocks {
     blocks: Vec<Block>,
 }
@@ -42,10 +42,11 @@ impl Model for Blocks {
 }
 
 impl Blocks {
-    /// These blocks, in their order.
-    pub fn from_vec(blocks: Vec<Block>) -> Blocks
+    /// These blocks, in their order, with no room for more.
+    pub fn from_vec(mut blocks: Vec<Block>) -> Blocks
         ensures { result ≡ blocks.items }
     {
+        blocks.shrink_to_fit();
         Blocks { blocks }
     }
 

@@ -8,7 +8,7 @@ use crate::ty::TyText;
 use std::marker::Model;
 
 /// A parameter of a function.
-#[derive(Debug, Drop)]
+#[derive(Drop)]
 pub struct Param {
     /// The line of the parameter's first token.
     pub line: u32,
@@ -21,7 +21,7 @@ pub struct Param {
 }
 
 /// The parameters of a function in order. Contracts see a list.
-#[derive(Debug, Drop)]
+#[derive(Drop)]
 pub struct Params {
     params: Vec<Param>,
 }
@@ -40,10 +40,11 @@ impl Model for Params {
 }
 
 impl Params {
-    /// These parameters, in their order.
-    pub fn from_vec(params: Vec<Param>) -> Params
+    /// These parameters, in their order, with no room for more.
+    pub fn from_vec(mut params: Vec<Param>) -> Params
         ensures { result ≡ params.items }
     {
+        params.shrink_to_fit();
         Params { params }
     }
 
@@ -63,7 +64,7 @@ impl Params {
 }
 
 /// A function, defined or declared.
-#[derive(Debug, Drop)]
+#[derive(Drop)]
 pub struct Function {
     /// The line of `define` or `declare`.
     pub line: u32,
@@ -84,7 +85,7 @@ pub struct Function {
 }
 
 /// The functions of a module in the order of the text. Contracts see a list.
-#[derive(Debug, Drop)]
+#[derive(Drop)]
 pub struct Functions {
     functions: Vec<Function>,
 }
@@ -103,10 +104,11 @@ impl Model for Functions {
 }
 
 impl Functions {
-    /// These functions, in their order.
-    pub fn from_vec(functions: Vec<Function>) -> Functions
+    /// These functions, in their order, with no room for more.
+    pub fn from_vec(mut functions: Vec<Function>) -> Functions
         ensures { result ≡ functions.items }
     {
+        functions.shrink_to_fit();
         Functions { functions }
     }
 

@@ -8,7 +8,6 @@ use crate::ty::TyText;
 use std::marker::Model;
 
 /// A global variable, defined or declared.
-#[derive(Debug, Drop)]
 pub struct Global {
     /// The line of its first token.
     pub line: u32,
@@ -28,8 +27,26 @@ pub struct Global {
     pub align: Option<u64>,
 }
 
+impl Drop for Global {
+    fn drop(self) {
+        let Global {
+            name,
+            ty,
+            init,
+            line: _,
+            linkage: _,
+            visibility: _,
+            constant: _,
+            align: _,
+        } = self;
+        drop(name);
+        drop(ty);
+        drop(init);
+    }
+}
+
 /// The global variables of a module in the order of the text. Contracts see a list.
-#[derive(Debug, Drop)]
+#[derive(Drop)]
 pub struct Globals {
     globals: Vec<Global>,
 }
@@ -48,10 +65,11 @@ impl Model for Globals {
 }
 
 impl Globals {
-    /// These variables, in their order.
-    pub fn from_vec(globals: Vec<Global>) -> Globals
+    /// These variables, in their order, with no room for more.
+    pub fn from_vec(mut globals: Vec<Global>) -> Globals
         ensures { result ≡ globals.items }
     {
+        globals.shrink_to_fit();
         Globals { globals }
     }
 

@@ -1,19 +1,25 @@
 //! Initialisers of globals (LangRef, "Global Variables" and "Complex Constants").
-ghost use Rattle.std.specs.Prelude.{◌≡◌, IfOk};
-ghost use Rattle.ir_syntax.specs.InitLists.{inits_from, parts_of};
+ghost use Rattle.std.specs.Prelude.{◌≡◌, ◌++◌, ◌∷◌, IfOk, []};
+ghost use Rattle.ir_syntax.specs.InitLists.{inits_from, parts_before, parts_of};
 ghost use Rattle.ir_syntax.specs.Inits.{array, bytes, init_of, inits_in, packed, struct, value, zeros};
 
 use crate::bytes::Bytes;
-use crate::init_tree::{InitTree, InitTreeList};
+use crate::init_tree::{InitNode, InitTree, InitTreeList};
 use crate::operand::Operand;
 use crate::ty::TyText;
 use std::alloc::{AllocError, Global};
 use std::marker::Model;
 
 /// An initialiser as written. Contracts see a tree without boxes.
-#[derive(Debug, Drop)]
 pub struct Init {
     tree: InitTree,
+}
+
+impl Drop for Init {
+    fn drop(self) {
+        let Init { tree } = self;
+        drop(tree);
+    }
 }
 
 impl Model for Init {
@@ -57,35 +63,32 @@ impl Init {
 
     /// The elements of an array.
     #[tactic(auto, using(crate::proofs::Parts::is_from_its_list))]
-    pub fn array(alloc: Global, elements: TypedInits) -> Result<Init, AllocError>
-        ensures { IfOk result (λ init. init ≡ array (inits_from elements)) }
+    pub fn array(elements: TypedInits) -> Init
+        ensures { result ≡ array (inits_from elements) }
     {
-        let elements = init_list(alloc, elements)?;
-        Ok(Init {
-            tree: InitTree::Array(elements),
-        })
+        Init {
+            tree: InitTree::Array(elements.into_list()),
+        }
     }
 
     /// The fields of a struct.
     #[tactic(auto, using(crate::proofs::Parts::is_from_its_list))]
-    pub fn structure(alloc: Global, fields: TypedInits) -> Result<Init, AllocError>
-        ensures { IfOk result (λ init. init ≡ struct (inits_from fields)) }
+    pub fn structure(fields: TypedInits) -> Init
+        ensures { result ≡ struct (inits_from fields) }
     {
-        let fields = init_list(alloc, fields)?;
-        Ok(Init {
-            tree: InitTree::Struct(fields),
-        })
+        Init {
+            tree: InitTree::Struct(fields.into_list()),
+        }
     }
 
     /// The fields of a packed struct.
     #[tactic(auto, using(crate::proofs::Parts::is_from_its_list))]
-    pub fn packed(alloc: Global, fields: TypedInits) -> Result<Init, AllocError>
-        ensures { IfOk result (λ init. init ≡ packed (inits_from fields)) }
+    pub fn packed(fields: TypedInits) -> Init
+        ensures { result ≡ packed (inits_from fields) }
     {
-        let fields = init_list(alloc, fields)?;
-        Ok(Init {
-            tree: InitTree::Packed(fields),
-        })
+        Init {
+            tree: InitTree::Packed(fields.into_list()),
+        }
     }
 
     /// The initialiser as a tree, to be matched.
@@ -94,25 +97,17 @@ impl Init {
     {
         &self.tree
     }
-}
 
-/// These initialisers as the parts of one.
-fn init_list(alloc: Global, parts: TypedInits) -> Result<InitTreeList, AllocError>
-    ensures { IfOk result (λ list. parts_of (inits_in list) ≡ parts) }
-{
-    let mut parts = parts.into_vec();
-    let mut list = InitTreeList::End;
-    while let Some(part) = parts.pop() {
-        let TypedInit { ty, init } = part;
-        let Init { tree } = init;
-        let head = Box::new(alloc, tree)?;
-        list = InitTreeList::More(ty, head, Box::new(alloc, list)?);
+    /// The initialiser as a tree, to be a part of another.
+    fn into_tree(self) -> InitTree
+        ensures { init_of result ≡ self }
+    {
+        let Init { tree } = self;
+        tree
     }
-    Ok(list)
 }
 
 /// An initialiser with its type.
-#[derive(Debug, Drop)]
 pub struct TypedInit {
     /// Its type.
     pub ty: TyText,
@@ -120,15 +115,44 @@ pub struct TypedInit {
     pub init: Init,
 }
 
+impl Drop for TypedInit {
+    fn drop(self) {
+        let TypedInit { ty, init } = self;
+        drop(ty);
+        drop(init);
+    }
+}
+
+impl TypedInit {
+    /// The type and the initialiser, to be taken apart.
+    fn into_parts(self) -> (TyText, Init)
+        ensures { result ≡ (self.ty, self.init) }
+    {
+        let TypedInit { ty, init } = self;
+        (ty, init)
+    }
+}
+
 /// Initialisers with their types, in order. Contracts see a list.
-#[derive(Debug, Drop)]
+///
+/// There may be millions, so each is where it stays from the first: in a list with the last one in front, that is turned round
+/// once it is complete.
 pub struct TypedInits {
-    parts: Vec<TypedInit>,
+    last_first: InitTreeList,
+}
+
+impl Drop for TypedInits {
+    fn drop(self) {
+        let TypedInits { last_first } = self;
+        drop(last_first);
+    }
 }
 
 impl Model for TypedInits {
     ghost use Rattle.std.specs.Prelude.{List};
     ghost use Rattle.std.specs.Coded.{coded_list};
+    ghost use Rattle.ir_syntax.specs.InitLists.{parts_before};
+    ghost use Rattle.ir_syntax.specs.Inits.{inits_in};
     ghost use Rattle.ir_syntax.specs.declared.init.TypedInit.{TypedInit};
     ghost use Rattle.ir_syntax.specs.contracts.init.TypedInit as typed_init;
 
@@ -136,28 +160,46 @@ impl Model for TypedInits {
 
     ghost coded = { coded_list typed_init.the_row.coded };
 
-    ghost view = { λ p. p.parts.items };
+    ghost view = { λ p. parts_before (inits_in p.last_first) };
 }
 
 impl TypedInits {
-    /// These initialisers, in their order.
-    pub fn from_vec(parts: Vec<TypedInit>) -> TypedInits
-        ensures { result ≡ parts.items }
+    /// No initialisers.
+    pub fn new() -> TypedInits
+        ensures { result ≡ [] }
     {
-        TypedInits { parts }
+        TypedInits {
+            last_first: InitTreeList::End,
+        }
     }
 
-    /// The initialisers in order.
-    pub fn as_slice(&self) -> &[TypedInit]
-        ensures { result.now ≡ self.now }
+    /// These initialisers and one more behind them.
+    pub fn with(self, alloc: Global, part: TypedInit) -> Result<TypedInits, AllocError>
+        ensures { IfOk result (λ all. all ≡ self ++ part ∷ []) }
     {
-        self.parts.as_slice()
+        let (ty, init) = part.into_parts();
+        let node = InitNode {
+            ty,
+            init: init.into_tree(),
+            tail: self.into_last_first(),
+        };
+        Ok(TypedInits {
+            last_first: InitTreeList::More(Box::new(alloc, node)?),
+        })
     }
 
-    /// The initialisers in order, to be taken apart.
-    pub fn into_vec(self) -> Vec<TypedInit>
-        ensures { result.items ≡ self }
+    /// The initialisers, the last one first.
+    fn into_last_first(self) -> InitTreeList
+        ensures { parts_before (inits_in result) ≡ self }
     {
-        self.parts
+        let TypedInits { last_first } = self;
+        last_first
+    }
+
+    /// The initialisers, the first one first.
+    fn into_list(self) -> InitTreeList
+        ensures { parts_of (inits_in result) ≡ self }
+    {
+        self.into_last_first().turned_round()
     }
 }

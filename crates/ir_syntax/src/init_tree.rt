@@ -1,11 +1,16 @@
 //! Initialisers as trees of what the text writes (LangRef, "Complex Constants").
+ghost use Rattle.std.specs.Prelude.{◌≡◌};
+ghost use Rattle.ir_syntax.specs.InitLists.{parts_before, parts_of};
+ghost use Rattle.ir_syntax.specs.Inits.{inits_in};
+
 use crate::bytes::Bytes;
 use crate::operand::Operand;
 use crate::ty::TyText;
+use std::mem;
 
 /// An initialiser as written, each part in a box. [`Init`](crate::Init) is what contracts see as one value.
 #[cycle(init)]
-#[derive(Debug, Drop)]
+#[derive(Drop)]
 pub enum InitTree {
     /// A scalar.
     Value(Operand),
@@ -23,12 +28,23 @@ pub enum InitTree {
 
 /// Initialisers with their types in order. A list may be long, so it is built, walked and dropped by loops.
 #[cycle(init)]
-#[derive(Debug)]
 pub enum InitTreeList {
     /// No more initialisers.
     End,
     /// An initialiser of a type, and those behind it.
-    More(TyText, Box<InitTree>, Box<InitTreeList>),
+    More(Box<InitNode>),
+}
+
+/// An initialiser in a list with its type, and those behind it.
+#[cycle(init)]
+#[derive(Drop)]
+pub struct InitNode {
+    /// Its type.
+    pub ty: TyText,
+    /// The initialiser.
+    pub init: InitTree,
+    /// The initialisers behind it.
+    pub tail: InitTreeList,
 }
 
 impl Drop for InitTreeList {
@@ -37,7 +53,30 @@ impl Drop for InitTreeList {
         loop {
             match self {
                 InitTreeList::End => return,
-                InitTreeList::More(_, _, tail) => self = Box::into_inner(tail),
+                InitTreeList::More(node) => {
+                    let InitNode { ty, init, tail } = Box::into_inner(node);
+                    drop(ty);
+                    drop(init);
+                    self = tail;
+                }
+            }
+        }
+    }
+}
+
+impl InitTreeList {
+    /// The list with the last initialiser in front. No initialiser moves.
+    pub(crate) fn turned_round(mut self) -> InitTreeList
+        ensures { parts_of (inits_in result) ≡ parts_before (inits_in self) }
+    {
+        let mut list = InitTreeList::End;
+        loop {
+            match self {
+                InitTreeList::End => return list,
+                InitTreeList::More(mut node) => {
+                    self = mem::replace(&mut node.tail, list);
+                    list = InitTreeList::More(node);
+                }
             }
         }
     }

@@ -25,7 +25,6 @@ pub enum CastOp {
 }
 
 /// An argument of a call.
-#[derive(Debug, Drop)]
 pub struct Arg {
     /// Its type.
     pub ty: TyText,
@@ -35,8 +34,20 @@ pub struct Arg {
     pub value: Operand,
 }
 
+impl Drop for Arg {
+    fn drop(self) {
+        let Arg {
+            ty,
+            value,
+            align: _,
+        } = self;
+        drop(ty);
+        drop(value);
+    }
+}
+
 /// The arguments of a call in order. Contracts see a list.
-#[derive(Debug, Drop)]
+#[derive(Drop)]
 pub struct Args {
     args: Vec<Arg>,
 }
@@ -55,10 +66,11 @@ impl Model for Args {
 }
 
 impl Args {
-    /// These arguments, in their order.
-    pub fn from_vec(args: Vec<Arg>) -> Args
+    /// These arguments, in their order, with no room for more.
+    pub fn from_vec(mut args: Vec<Arg>) -> Args
         ensures { result ≡ args.items }
     {
+        args.shrink_to_fit();
         Args { args }
     }
 
@@ -78,7 +90,6 @@ impl Args {
 }
 
 /// What an instruction does, with its parts in the order in which the text has them.
-#[derive(Debug, Drop)]
 pub enum Op {
     /// `add`, `sub`, `mul` or `shl`.
     Wrapping {
@@ -222,8 +233,140 @@ pub enum Op {
     },
 }
 
+impl Drop for Op {
+    fn drop(self) {
+        match self {
+            Op::Wrapping {
+                ty,
+                left,
+                right,
+                op: _,
+                nuw: _,
+                nsw: _,
+            } => {
+                drop(ty);
+                drop(left);
+                drop(right);
+            }
+            Op::Exact {
+                ty,
+                left,
+                right,
+                op: _,
+                exact: _,
+            } => {
+                drop(ty);
+                drop(left);
+                drop(right);
+            }
+            Op::Bitwise {
+                ty,
+                left,
+                right,
+                op: _,
+            } => {
+                drop(ty);
+                drop(left);
+                drop(right);
+            }
+            Op::Icmp {
+                ty,
+                left,
+                right,
+                pred: _,
+            } => {
+                drop(ty);
+                drop(left);
+                drop(right);
+            }
+            Op::Select {
+                condition_ty,
+                condition,
+                then_ty,
+                then_value,
+                else_ty,
+                else_value,
+            } => {
+                drop(condition_ty);
+                drop(condition);
+                drop(then_ty);
+                drop(then_value);
+                drop(else_ty);
+                drop(else_value);
+            }
+            Op::Cast {
+                from,
+                value,
+                to,
+                op: _,
+            } => {
+                drop(from);
+                drop(value);
+                drop(to);
+            }
+            Op::Freeze { ty, value } => {
+                drop(ty);
+                drop(value);
+            }
+            Op::Gep {
+                ty,
+                base_ty,
+                base,
+                indices,
+                inbounds: _,
+            } => {
+                drop(ty);
+                drop(base_ty);
+                drop(base);
+                drop(indices);
+            }
+            Op::Load {
+                ty,
+                address_ty,
+                address,
+                align: _,
+            } => {
+                drop(ty);
+                drop(address_ty);
+                drop(address);
+            }
+            Op::Store {
+                ty,
+                value,
+                address_ty,
+                address,
+                align: _,
+            } => {
+                drop(ty);
+                drop(value);
+                drop(address_ty);
+                drop(address);
+            }
+            Op::Alloca {
+                ty,
+                count,
+                align: _,
+            } => {
+                drop(ty);
+                drop(count);
+            }
+            Op::Call {
+                result,
+                params,
+                callee,
+                args,
+            } => {
+                drop(result);
+                drop(params);
+                drop(callee);
+                drop(args);
+            }
+        }
+    }
+}
+
 /// An instruction.
-#[derive(Debug, Drop)]
+#[derive(Drop)]
 pub struct Instr {
     /// The line of the instruction's first token.
     pub line: u32,
@@ -234,7 +377,7 @@ pub struct Instr {
 }
 
 /// The instructions of a block in order, between its phis and its terminator. Contracts see a list.
-#[derive(Debug, Drop)]
+#[derive(Drop)]
 pub struct Instrs {
     instrs: Vec<Instr>,
 }
@@ -253,10 +396,11 @@ impl Model for Instrs {
 }
 
 impl Instrs {
-    /// These instructions, in their order.
-    pub fn from_vec(instrs: Vec<Instr>) -> Instrs
+    /// These instructions, in their order, with no room for more.
+    pub fn from_vec(mut instrs: Vec<Instr>) -> Instrs
         ensures { result ≡ instrs.items }
     {
+        instrs.shrink_to_fit();
         Instrs { instrs }
     }
 

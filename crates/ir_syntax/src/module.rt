@@ -5,7 +5,7 @@ use crate::global::Globals;
 use crate::type_def::TypeDefs;
 
 /// A module: its items in the order of the text, each kind in a list of its own.
-#[derive(Debug, Drop)]
+#[derive(Drop)]
 pub struct Module {
     /// The named types.
     pub types: TypeDefs,

@@ -1,123 +1,152 @@
 //! Numbers of unnamed items (LangRef, "Identifiers").
-ghost use Rattle.std.specs.Prelude.{◌≡◌, ◌<◌, ◌+◌, ◌*◌, ◌^◌, nat_eq, nat_lt, None, Some, IfOk, OnErr, OnOk, if◌then◌else◌};
+ghost use Rattle.std.specs.Prelude.{◌≡◌, ◌<◌, ◌≤◌, ◌+◌, ◌*◌, ◌^◌, nat_eq, IfOk, OnErr, OnOk};
 ghost use Rattle.std.specs.Int.Digits.{digits_of};
-ghost use Rattle.ir_syntax.specs.Numbers.{AreDigits, below_limit, leads, number_in};
+ghost use Rattle.ir_syntax.specs.Numbers.{AreLarge, IsWritten, below_limit, number_in};
 
 use std::alloc::{AllocError, Global};
 use std::marker::Model;
 
 /// The number of an unnamed item. It may be of any size, since types are not counted: each number is a name for one.
 /// Contracts see the number.
-#[derive(Debug, Drop)]
+#[derive(Drop)]
 pub struct ItemNumber {
-    /// Its decimal digits, from 0 to 9, the highest first; none for 0.
-    digits: Vec<u8>,
+    stored: Stored,
+}
+
+/// How a number is stored.
+#[derive(Drop)]
+enum Stored {
+    /// One below 2^64.
+    Small(u64),
+    /// The decimal digits of any other, from 0 to 9, the highest first.
+    Large(Box<Vec<u8>>),
 }
 
 impl Model for ItemNumber {
     ghost use Rattle.std.specs.Prelude.{ℕ};
-    ghost use Rattle.ir_syntax.specs.Numbers.{AreDigits, number_in};
+    ghost use Rattle.ir_syntax.specs.Numbers.{IsStored, stored_number};
 
     ghost Value = { ℕ };
 
-    ghost view = { λ n. number_in n.digits.items };
+    ghost view = { λ n. stored_number n.stored };
 
-    ghost invariant = { λ n. AreDigits n.digits.items };
+    ghost invariant = { λ n. IsStored n.stored };
+}
+
+/// A number as a map of names looks it up.
+pub(crate) enum Written<'a> {
+    /// One below 2^64.
+    Small(u64),
+    /// The decimal digits of any other, from 0 to 9, the highest first.
+    Large(&'a [u8]),
 }
 
 impl ItemNumber {
-    /// The number 0.
-    pub fn zero(alloc: Global) -> ItemNumber
-        ensures { result ≡ 0 }
+    /// This number.
+    pub fn from_u64(number: u64) -> ItemNumber
+        ensures { result ≡ number }
     {
         ItemNumber {
-            digits: Vec::new(alloc),
+            stored: Stored::Small(number),
         }
-    }
-
-    /// The number of an item behind so many others.
-    pub fn from_count(alloc: Global, count: u32) -> Result<ItemNumber, AllocError>
-        ensures { IfOk result (λ number. number ≡ count) }
-    {
-        if count == 0 {
-            return Ok(ItemNumber::zero(alloc));
-        }
-        let mut number = ItemNumber::from_count(alloc, count / 10)?;
-        number.push_digit((count % 10) as u8)?;
-        Ok(number)
     }
 
     /// Writes a digit, from 0 to 9, behind the others.
-    pub fn push_digit(&mut self, digit: u8) -> Result<(), AllocError>
+    pub fn push_digit(&mut self, alloc: Global, digit: u8) -> Result<(), AllocError>
         requires { digit < 10 }
         ensures ok { OnOk result (self.new ≡ 10 * self.old + digit) }
         ensures err { OnErr result (self.new ≡ self.old) }
     {
-        push_behind(&mut self.digits, digit)
+        match &mut self.stored {
+            Stored::Large(digits) => push_behind(digits, digit),
+            Stored::Small(number) => match one_more(*number, digit) {
+                Some(more) => {
+                    *number = more;
+                    Ok(())
+                }
+                None => {
+                    let digits = large(alloc, *number, digit)?;
+                    self.stored = Stored::Large(Box::new(alloc, digits)?);
+                    Ok(())
+                }
+            },
+        }
     }
 
-    /// The decimal digits, from 0 to 9, the highest first; none of 0.
-    pub fn digits(&self) -> &[u8]
-        ensures { result.now ≡ digits_of 10 self.now }
+    /// The number as a map of names looks it up.
+    pub(crate) fn written(&self) -> Written<'_>
+        ensures { IsWritten result self.now }
     {
-        self.digits.as_slice()
+        match &self.stored {
+            Stored::Small(number) => Written::Small(*number),
+            Stored::Large(digits) => Written::Large(digits.as_slice()),
+        }
     }
 
     /// Whether this is the same number.
     pub fn is_same(&self, other: &ItemNumber) -> bool
         ensures { result ≡ nat_eq self.now other.now }
     {
-        self.digits.as_slice() == other.digits.as_slice()
+        match (&self.stored, &other.stored) {
+            (Stored::Small(a), Stored::Small(b)) => *a == *b,
+            (Stored::Large(a), Stored::Large(b)) => a.as_slice() == b.as_slice(),
+            _ => false,
+        }
     }
 
     /// The number, where it is below 2^64.
     pub fn to_u64(&self) -> Option<u64>
         ensures { result ≡ below_limit self.now }
     {
-        small_number(self.digits.as_slice())
+        match &self.stored {
+            Stored::Small(number) => Some(*number),
+            Stored::Large(_) => None,
+        }
     }
 }
 
-/// Writes a digit behind others, unless it is a 0 before all others.
-#[tactic(auto, using(crate::proofs::NumberLemmas::digits_more, crate::proofs::NumberLemmas::number_more, crate::proofs::NumberLemmas::still_none))]
+/// Writes a digit behind those of a large number.
 fn push_behind(digits: &mut Vec<u8>, digit: u8) -> Result<(), AllocError>
-    requires digits { AreDigits digits.old.items }
     requires digit { digit < 10 }
+    requires digits { AreLarge digits.old.items }
     ensures ok { OnOk result (number_in digits.new.items ≡ 10 * number_in digits.old.items + digit) }
-    ensures digits { AreDigits digits.new.items }
+    ensures digits { AreLarge digits.new.items }
     ensures err { OnErr result (digits.new.items ≡ digits.old.items) }
 {
-    if leads(digits.as_slice(), digit) {
-        return Ok(());
-    }
     digits.push(digit)?;
     Ok(())
 }
 
-/// Whether a digit is a 0 before all others.
-fn leads(digits: &[u8], digit: u8) -> bool
-    ensures { result ≡ leads digits.now digit }
+/// The digits of a number with one more behind its own.
+fn large(alloc: Global, number: u64, digit: u8) -> Result<Vec<u8>, AllocError>
+    requires digit { digit < 10 }
+    requires large { 2 ^ 64 ≤ 10 * number + digit }
+    ensures value { IfOk result (λ digits. number_in digits.items ≡ 10 * number + digit) }
+    ensures digits { IfOk result (λ digits. AreLarge digits.items) }
 {
-    match digits {
-        [] => digit == 0,
-        _ => false,
-    }
+    let mut digits = digits_of(alloc, number)?;
+    digits.push(digit)?;
+    Ok(digits)
 }
 
-/// The number of these digits, where it is below 2^64.
-fn small_number(digits: &[u8]) -> Option<u64>
-    ensures { result ≡ below_limit (number_in digits.now) }
+/// The decimal digits of a number, the highest first; none of 0.
+fn digits_of(alloc: Global, number: u64) -> Result<Vec<u8>, AllocError>
+    ensures { IfOk result (λ digits. digits.items ≡ digits_of 10 number) }
 {
-    let mut number: u64 = 0;
-    for digit in digits {
-        number = one_more(number, *digit)?;
+    if number == 0 {
+        return Ok(Vec::new(alloc));
     }
-    Some(number)
+    let mut digits = digits_of(alloc, number / 10)?;
+    digits.push((number % 10) as u8)?;
+    Ok(digits)
 }
 
 /// The number with a digit behind its own, where it is below 2^64.
 fn one_more(number: u64, digit: u8) -> Option<u64>
-    ensures { result ≡ below_limit (number * 10 + digit) }
+    ensures { result ≡ below_limit (10 * number + digit) }
 {
     number.checked_mul(10)?.checked_add(u64::from(digit))
 }
+
+// A number stays small, so that a tree of names does.
+const _: () = prove!(size_of::<ItemNumber>() <= 16);

@@ -1,13 +1,13 @@
 //! Values as operands (LangRef, "Constants" and "Identifiers").
-ghost use Rattle.std.specs.Prelude.{◌≡◌};
+ghost use Rattle.std.specs.Prelude.{◌≡◌, IfOk};
 
 use crate::literal::Literal;
 use crate::name::NameUse;
 use crate::ty::TyText;
+use std::alloc::{AllocError, Global};
 use std::marker::Model;
 
 /// An integer literal with its type.
-#[derive(Debug, Drop)]
 pub struct TypedLiteral {
     /// Its type.
     pub ty: TyText,
@@ -15,8 +15,15 @@ pub struct TypedLiteral {
     pub value: Literal,
 }
 
+impl Drop for TypedLiteral {
+    fn drop(self) {
+        let TypedLiteral { ty, value: _ } = self;
+        drop(ty);
+    }
+}
+
 /// Integer literals with their types, in order. Contracts see a list.
-#[derive(Debug, Drop)]
+#[derive(Drop)]
 pub struct TypedLiterals {
     literals: Vec<TypedLiteral>,
 }
@@ -35,10 +42,11 @@ impl Model for TypedLiterals {
 }
 
 impl TypedLiterals {
-    /// These literals, in their order.
-    pub fn from_vec(literals: Vec<TypedLiteral>) -> TypedLiterals
+    /// These literals, in their order, with no room for more.
+    pub fn from_vec(mut literals: Vec<TypedLiteral>) -> TypedLiterals
         ensures { result ≡ literals.items }
     {
+        literals.shrink_to_fit();
         TypedLiterals { literals }
     }
 
@@ -57,9 +65,8 @@ impl TypedLiterals {
     }
 }
 
-/// A constant `getelementptr` on a global name (LangRef, "Constant Expressions").
-#[derive(Debug, Drop)]
-pub struct ConstantGep {
+/// The parts of a constant `getelementptr` on a global name (LangRef, "Constant Expressions").
+pub struct GepParts {
     /// Whether it says `inbounds`.
     pub inbounds: bool,
     /// The type in which the indices go.
@@ -70,8 +77,55 @@ pub struct ConstantGep {
     pub indices: TypedLiterals,
 }
 
+impl Drop for GepParts {
+    fn drop(self) {
+        let GepParts {
+            inbounds: _,
+            ty,
+            base,
+            indices,
+        } = self;
+        drop(ty);
+        drop(base);
+        drop(indices);
+    }
+}
+
+/// A constant `getelementptr`. Few operands are one, so its parts are in a box. Contracts see them without it.
+#[derive(Drop)]
+pub struct ConstantGep {
+    parts: Box<GepParts>,
+}
+
+impl Model for ConstantGep {
+    ghost use Rattle.ir_syntax.specs.declared.operand.GepParts.{GepParts};
+    ghost use Rattle.ir_syntax.specs.contracts.operand.GepParts as gep_parts;
+
+    ghost Value = { GepParts };
+
+    ghost coded = { gep_parts.the_row.coded };
+
+    ghost view = { λ g. g.parts.value };
+}
+
+impl ConstantGep {
+    /// The address of these parts.
+    pub fn new(alloc: Global, parts: GepParts) -> Result<ConstantGep, AllocError>
+        ensures { IfOk result (λ gep. gep ≡ parts) }
+    {
+        let parts = Box::new(alloc, parts)?;
+        Ok(ConstantGep { parts })
+    }
+
+    /// Its parts.
+    pub fn parts(&self) -> &GepParts
+        ensures { result.now ≡ self.now }
+    {
+        &self.parts
+    }
+}
+
 /// A value as an operand.
-#[derive(Debug, Drop)]
 pub enum Operand {
     /// A parameter or a result of this function.
     Local(NameUse),
@@ -93,8 +147,24 @@ pub enum Operand {
     Gep(ConstantGep),
 }
 
+impl Drop for Operand {
+    fn drop(self) {
+        match self {
+            Operand::Local(used) => drop(used),
+            Operand::Global(used) => drop(used),
+            Operand::Int(_)
+            | Operand::True
+            | Operand::False
+            | Operand::Null
+            | Operand::Undef
+            | Operand::Poison => {}
+            Operand::Gep(gep) => drop(gep),
+        }
+    }
+}
+
 /// An operand with its type.
-#[derive(Debug, Drop)]
+#[derive(Drop)]
 pub struct TypedOperand {
     /// Its type.
     pub ty: TyText,
@@ -103,7 +173,7 @@ pub struct TypedOperand {
 }
 
 /// Operands with their types, in order. Contracts see a list.
-#[derive(Debug, Drop)]
+#[derive(Drop)]
 pub struct TypedOperands {
     operands: Vec<TypedOperand>,
 }
@@ -122,10 +192,11 @@ impl Model for TypedOperands {
 }
 
 impl TypedOperands {
-    /// These operands, in their order.
-    pub fn from_vec(operands: Vec<TypedOperand>) -> TypedOperands
+    /// These operands, in their order, with no room for more.
+    pub fn from_vec(mut operands: Vec<TypedOperand>) -> TypedOperands
         ensures { result ≡ operands.items }
     {
+        operands.shrink_to_fit();
         TypedOperands { operands }
     }
 

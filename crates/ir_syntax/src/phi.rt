@@ -7,7 +7,6 @@ use crate::ty::TyText;
 use std::marker::Model;
 
 /// The value of a phi where one block comes before.
-#[derive(Debug, Drop)]
 pub struct PhiEntry {
     /// The value.
     pub value: Operand,
@@ -15,8 +14,16 @@ pub struct PhiEntry {
     pub block: NameUse,
 }
 
+impl Drop for PhiEntry {
+    fn drop(self) {
+        let PhiEntry { value, block } = self;
+        drop(value);
+        drop(block);
+    }
+}
+
 /// The entries of a phi in order. Contracts see a list.
-#[derive(Debug, Drop)]
+#[derive(Drop)]
 pub struct PhiEntries {
     entries: Vec<PhiEntry>,
 }
@@ -35,10 +42,11 @@ impl Model for PhiEntries {
 }
 
 impl PhiEntries {
-    /// These entries, in their order.
-    pub fn from_vec(entries: Vec<PhiEntry>) -> PhiEntries
+    /// These entries, in their order, with no room for more.
+    pub fn from_vec(mut entries: Vec<PhiEntry>) -> PhiEntries
         ensures { result ≡ entries.items }
     {
+        entries.shrink_to_fit();
         PhiEntries { entries }
     }
 
@@ -58,7 +66,7 @@ impl PhiEntries {
 }
 
 /// A phi.
-#[derive(Debug, Drop)]
+#[derive(Drop)]
 pub struct Phi {
     /// The line of the phi's first token.
     pub line: u32,
@@ -71,7 +79,7 @@ pub struct Phi {
 }
 
 /// The phis of a block in order. Contracts see a list.
-#[derive(Debug, Drop)]
+#[derive(Drop)]
 pub struct Phis {
     phis: Vec<Phi>,
 }
@@ -90,10 +98,11 @@ impl Model for Phis {
 }
 
 impl Phis {
-    /// These phis, in their order.
-    pub fn from_vec(phis: Vec<Phi>) -> Phis
+    /// These phis, in their order, with no room for more.
+    pub fn from_vec(mut phis: Vec<Phi>) -> Phis
         ensures { result ≡ phis.items }
     {
+        phis.shrink_to_fit();
         Phis { phis }
     }
 

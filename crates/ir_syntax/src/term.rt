@@ -8,7 +8,6 @@ use crate::ty::TyText;
 use std::marker::Model;
 
 /// A case of a `switch`.
-#[derive(Debug, Drop)]
 pub struct Case {
     /// The type of its value.
     pub ty: TyText,
@@ -18,8 +17,20 @@ pub struct Case {
     pub target: NameUse,
 }
 
+impl Drop for Case {
+    fn drop(self) {
+        let Case {
+            ty,
+            target,
+            value: _,
+        } = self;
+        drop(ty);
+        drop(target);
+    }
+}
+
 /// The cases of a `switch` in order. Contracts see a list.
-#[derive(Debug, Drop)]
+#[derive(Drop)]
 pub struct Cases {
     cases: Vec<Case>,
 }
@@ -38,10 +49,11 @@ impl Model for Cases {
 }
 
 impl Cases {
-    /// These cases, in their order.
-    pub fn from_vec(cases: Vec<Case>) -> Cases
+    /// These cases, in their order, with no room for more.
+    pub fn from_vec(mut cases: Vec<Case>) -> Cases
         ensures { result ≡ cases.items }
     {
+        cases.shrink_to_fit();
         Cases { cases }
     }
 
@@ -61,7 +73,6 @@ impl Cases {
 }
 
 /// What ends a block.
-#[derive(Debug, Drop)]
 pub enum Term {
     /// `ret void`.
     ReturnVoid {
@@ -115,4 +126,41 @@ pub enum Term {
         /// The line of `unreachable`.
         line: u32,
     },
+}
+
+impl Drop for Term {
+    fn drop(self) {
+        match self {
+            Term::ReturnVoid { line: _ } | Term::Unreachable { line: _ } => {}
+            Term::Ret { ty, value, line: _ } => {
+                drop(ty);
+                drop(value);
+            }
+            Term::Br { target, line: _ } => drop(target),
+            Term::CondBr {
+                ty,
+                condition,
+                then_target,
+                else_target,
+                line: _,
+            } => {
+                drop(ty);
+                drop(condition);
+                drop(then_target);
+                drop(else_target);
+            }
+            Term::Switch {
+                ty,
+                value,
+                default,
+                cases,
+                line: _,
+            } => {
+                drop(ty);
+                drop(value);
+                drop(default);
+                drop(cases);
+            }
+        }
+    }
 }

@@ -1,9 +1,10 @@
 //! Types as trees of what the text writes (LangRef, "Type System").
 use crate::name::NameUse;
 
-/// A type as written, each part in a box. [`TyText`](crate::TyText) is what contracts see as one value.
+/// A type as written. It is small, since most values that the text writes have one beside them: all but the smallest parts
+/// are in a box. [`TyText`](crate::TyText) is what contracts see as one value.
 #[cycle(tree)]
-#[derive(Debug, Drop)]
+#[derive(Drop)]
 pub enum TypeTree {
     /// An integer type (LangRef, "Integer Type").
     Int {
@@ -24,20 +25,29 @@ pub enum TypeTree {
         /// Whether its fields follow each other without padding.
         packed: bool,
         /// The types of its fields in order.
-        fields: TypeTreeList,
+        fields: Box<TypeTreeList>,
     },
     /// A type by its name.
-    Named(NameUse),
+    Named(Box<NameUse>),
 }
 
 /// Types in order. A list may be long, so it is built, walked and dropped by loops.
 #[cycle(tree)]
-#[derive(Debug)]
 pub enum TypeTreeList {
     /// No more types.
     End,
     /// A type and the types behind it.
-    More(Box<TypeTree>, Box<TypeTreeList>),
+    More(Box<TypeNode>),
+}
+
+/// A type in a list, and the types behind it.
+#[cycle(tree)]
+#[derive(Drop)]
+pub struct TypeNode {
+    /// The type.
+    pub ty: TypeTree,
+    /// The types behind it.
+    pub tail: TypeTreeList,
 }
 
 impl Drop for TypeTreeList {
@@ -46,7 +56,11 @@ impl Drop for TypeTreeList {
         loop {
             match self {
                 TypeTreeList::End => return,
-                TypeTreeList::More(_, tail) => self = Box::into_inner(tail),
+                TypeTreeList::More(node) => {
+                    let TypeNode { ty, tail } = Box::into_inner(node);
+                    drop(ty);
+                    self = tail;
+                }
             }
         }
     }

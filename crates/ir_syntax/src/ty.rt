@@ -3,14 +3,20 @@ ghost use Rattle.std.specs.Prelude.{◌≡◌, IfOk};
 ghost use Rattle.ir_syntax.specs.Types.{array, int, list_of, named, ptr, struct, tree_of, trees_from, trees_in};
 
 use crate::name::NameUse;
-use crate::tree::{TypeTree, TypeTreeList};
+use crate::tree::{TypeNode, TypeTree, TypeTreeList};
 use std::alloc::{AllocError, Global};
 use std::marker::Model;
 
 /// A type as written. Contracts see a tree without boxes.
-#[derive(Debug, Drop)]
 pub struct TyText {
     tree: TypeTree,
+}
+
+impl Drop for TyText {
+    fn drop(self) {
+        let TyText { tree } = self;
+        drop(tree);
+    }
 }
 
 impl Model for TyText {
@@ -47,8 +53,7 @@ impl TyText {
     pub fn array(alloc: Global, len: u32, elem: TyText) -> Result<TyText, AllocError>
         ensures { IfOk result (λ ty. ty ≡ array len elem) }
     {
-        let TyText { tree } = elem;
-        let elem = Box::new(alloc, tree)?;
+        let elem = Box::new(alloc, elem.into_tree())?;
         Ok(TyText {
             tree: TypeTree::Array { len, elem },
         })
@@ -59,19 +64,20 @@ impl TyText {
     pub fn structure(alloc: Global, packed: bool, fields: TypeTexts) -> Result<TyText, AllocError>
         ensures { IfOk result (λ ty. ty ≡ struct packed (trees_from fields)) }
     {
-        let fields = tree_list(alloc, fields)?;
+        let fields = Box::new(alloc, tree_list(alloc, fields)?)?;
         Ok(TyText {
             tree: TypeTree::Struct { packed, fields },
         })
     }
 
     /// The type of a name.
-    pub fn named(name: NameUse) -> TyText
-        ensures { result ≡ named name }
+    pub fn named(alloc: Global, name: NameUse) -> Result<TyText, AllocError>
+        ensures { IfOk result (λ ty. ty ≡ named name) }
     {
-        TyText {
+        let name = Box::new(alloc, name)?;
+        Ok(TyText {
             tree: TypeTree::Named(name),
-        }
+        })
     }
 
     /// The type as a tree, to be matched.
@@ -79,6 +85,14 @@ impl TyText {
         ensures { tree_of result.now ≡ self.now }
     {
         &self.tree
+    }
+
+    /// The type as a tree, to be a part of another.
+    fn into_tree(self) -> TypeTree
+        ensures { tree_of result ≡ self }
+    {
+        let TyText { tree } = self;
+        tree
     }
 }
 
@@ -89,15 +103,17 @@ fn tree_list(alloc: Global, types: TypeTexts) -> Result<TypeTreeList, AllocError
     let mut types = types.into_vec();
     let mut list = TypeTreeList::End;
     while let Some(ty) = types.pop() {
-        let TyText { tree } = ty;
-        let head = Box::new(alloc, tree)?;
-        list = TypeTreeList::More(head, Box::new(alloc, list)?);
+        let node = TypeNode {
+            ty: ty.into_tree(),
+            tail: list,
+        };
+        list = TypeTreeList::More(Box::new(alloc, node)?);
     }
     Ok(list)
 }
 
 /// Types in order. Contracts see a list.
-#[derive(Debug, Drop)]
+#[derive(Drop)]
 pub struct TypeTexts {
     types: Vec<TyText>,
 }
@@ -116,10 +132,11 @@ impl Model for TypeTexts {
 }
 
 impl TypeTexts {
-    /// These types, in their order.
-    pub fn from_vec(types: Vec<TyText>) -> TypeTexts
+    /// These types, in their order, with no room for more.
+    pub fn from_vec(mut types: Vec<TyText>) -> TypeTexts
         ensures { result ≡ types.items }
     {
+        types.shrink_to_fit();
         TypeTexts { types }
     }
 

@@ -6,7 +6,6 @@ use crate::ty::TyText;
 use std::marker::Model;
 
 /// The definition of a type's name.
-#[derive(Debug, Drop)]
 pub struct TypeDef {
     /// The line of the definition's first token.
     pub line: u32,
@@ -16,8 +15,20 @@ pub struct TypeDef {
     pub body: TyText,
 }
 
+impl Drop for TypeDef {
+    fn drop(self) {
+        let TypeDef {
+            name,
+            body,
+            line: _,
+        } = self;
+        drop(name);
+        drop(body);
+    }
+}
+
 /// The named types of a module in the order of the text. Contracts see a list.
-#[derive(Debug, Drop)]
+#[derive(Drop)]
 pub struct TypeDefs {
     types: Vec<TypeDef>,
 }
@@ -36,10 +47,11 @@ impl Model for TypeDefs {
 }
 
 impl TypeDefs {
-    /// These definitions, in their order.
-    pub fn from_vec(types: Vec<TypeDef>) -> TypeDefs
+    /// These definitions, in their order, with no room for more.
+    pub fn from_vec(mut types: Vec<TypeDef>) -> TypeDefs
         ensures { result ≡ types.items }
     {
+        types.shrink_to_fit();
         TypeDefs { types }
     }
 

@@ -7,7 +7,7 @@ use std::alloc::AllocError;
 use std::marker::Model;
 
 /// A type where it is written. Contracts see the type.
-#[derive(Debug, Drop)]
+#[derive(Drop)]
 pub(crate) struct Mention<'a> {
     pub(crate) ty: &'a TyText,
 }

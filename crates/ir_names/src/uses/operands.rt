@@ -41,9 +41,10 @@ pub(crate) fn push_gep<'a>(
 ) -> Result<(), AllocError>
     ensures { OnOk result (sites.new.items ≡ sites.old.items ++ gep_uses gep.now) }
 {
-    push_type(sites, &gep.ty)?;
-    push_use(sites, Sort::Global, &gep.base)?;
-    push_literals(sites, gep.indices.as_slice())
+    let parts = gep.parts();
+    push_type(sites, &parts.ty)?;
+    push_use(sites, Sort::Global, &parts.base)?;
+    push_literals(sites, parts.indices.as_slice())
 }
 
 /// Adds the names that an operand uses.
@@ -116,10 +117,10 @@ fn push_parts<'a>(sites: &mut Vec<Site<'a>>, parts: &'a InitTreeList) -> Result<
     ensures { OnOk result (sites.new.items ≡ sites.old.items ++ part_uses (inits_in parts.now)) }
 {
     let mut rest = parts;
-    while let InitTreeList::More(ty, head, tail) = rest {
-        push_type(sites, ty)?;
-        push_tree(sites, head)?;
-        rest = tail;
+    while let InitTreeList::More(node) = rest {
+        push_type(sites, &node.ty)?;
+        push_tree(sites, &node.init)?;
+        rest = &node.tail;
     }
     Ok(())
 }

@@ -71,9 +71,9 @@ fn push_fields<'a>(sites: &mut Vec<Site<'a>>, fields: &'a TypeTreeList) -> Resul
     ensures { OnOk result (sites.new.items ≡ sites.old.items ++ field_uses (trees_in fields.now)) }
 {
     let mut rest = fields;
-    while let TypeTreeList::More(head, tail) = rest {
-        push_tree(sites, head)?;
-        rest = tail;
+    while let TypeTreeList::More(node) = rest {
+        push_tree(sites, &node.ty)?;
+        rest = &node.tail;
     }
     Ok(())
 }

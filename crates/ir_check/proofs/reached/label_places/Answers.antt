@@ -8,7 +8,7 @@ use Rattle.ir_check.proofs.reached.label_places.Goals as goal
 
 pub loop-place-preserved : goal.loop-place-preserved
 loop-place-preserved c = λ name.
-    c.in_ok-add.ensures name
+    c.in_ok-add.ensures.ok name
     ∙ ap (λ old. or_else old (if same_name name c.index-blocks-place.result.label then Some c.loop-place.place else None)) (c.loop-place.invariant name)
     ∙ place_by-more (λ b. b.label) c.args.blocks.now c.loop-place.place c.index-blocks-place.result name (omega arith) c.index-blocks-place.is
 

@@ -8,7 +8,7 @@ use Rattle.ir_check.proofs.table.places_of.Goals as goal
 
 pub loop-place-preserved : goal.loop-place-preserved
 loop-place-preserved c = λ name.
-    c.in_ok-add.ensures name
+    c.in_ok-add.ensures.ok name
     ∙ ap (λ old. or_else old (if same_name name c.index-defs-place.result.name then Some c.loop-place.place else None)) (c.loop-place.invariant name)
     ∙ place_by-more (λ d. d.name) c.args.defs.now c.loop-place.place c.index-defs-place.result name (omega arith) c.index-defs-place.is
 

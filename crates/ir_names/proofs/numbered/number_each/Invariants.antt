@@ -1,14 +1,10 @@
-use Rattle.std.proofs.Common.{◌≡◌, ◌+◌, ◌++◌, flat_map, length}
-use Rattle.std.specs.Vec.Iter.{into_iter_items}
+use Rattle.std.proofs.Common.{◌≡◌, ◌+◌, ◌++◌, take, drop, flat_map}
 use Rattle.ir_names.specs.Faults.{unnamed_in}
 use Rattle.ir_names.specs.Numbered.{each_numbered}
 use Rattle.ir_names.proofs.numbered.number_each.Given as goal
 
 abbrev pub invariant-loop-part : goal.invariant-loop-part
 invariant-loop-part g l = record {
-  all : l.all.items ++ each_numbered g.T.Counted.numbered g.T.Counted.sites l.count (into_iter_items l.rest) ≡ each_numbered g.T.Counted.numbered g.T.Counted.sites l.initial.count (into_iter_items l.initial.rest);
-  count : l.count + unnamed_in (flat_map g.T.Counted.sites (into_iter_items l.rest)) ≡ l.initial.count + unnamed_in (flat_map g.T.Counted.sites (into_iter_items l.initial.rest));
+  parts : take l.part-index l.parts ++ each_numbered g.T.Counted.numbered g.T.Counted.sites l.count (drop l.part-index l.parts) ≡ each_numbered g.T.Counted.numbered g.T.Counted.sites l.initial.count l.initial.parts;
+  count : l.count + unnamed_in (flat_map g.T.Counted.sites (drop l.part-index l.parts)) ≡ l.initial.count + unnamed_in (flat_map g.T.Counted.sites l.initial.parts);
 }
-
-abbrev pub decreases-loop-part : goal.decreases-loop-part
-decreases-loop-part g l = length (into_iter_items l.rest)

@@ -1,6 +1,6 @@
 use Rattle.std.proofs.Common.{◌<◌, arith, length}
 use Rattle.ir_check.proofs.RepeatedLemmas.{known_more, repeats_more}
-use Rattle.ir_check.proofs.repeated.push_repeats.Goals as goal
+use Rattle.ir_check.proofs.repeated.push_many_repeats.Goals as goal
 
 pub loop-defined-preserved : goal.loop-defined-preserved
 loop-defined-preserved c =
