@@ -1,66 +1,24 @@
 -- The rules of blocks keep the laws.
-use Rattle.std.proofs.Common.{◌≡◌, Bool, true, false, List, [], ◌∷◌, Some, None, refl}
-use Rattle.std.specs.Prelude.{Option, filter_map}
+use Rattle.std.proofs.Common.{◌≡◌, Bool, refl}
+use Rattle.std.specs.Prelude.{Option}
 use Rattle.ir_syntax.specs.declared.instr.Op.{Op}
-use Rattle.ir_syntax.specs.declared.phi.PhiEntry.{PhiEntry}
 use Rattle.ir_body.specs.declared.statement.Doing.TheVariants as doing
 use Rattle.ir_body.specs.declared.statement.Place.{Place}
 use Rattle.ir_body.specs.declared.statement.Place.TheVariants as place
 use Rattle.ir_words.specs.declared.class.Class.TheVariants as class
-use Rattle.ir_rules.specs.Rules.{all_in}
 use Rattle.ir_rules.proofs.Chains.{chain_lawful}
 use Rattle.ir_rules.proofs.Derived.{option_lawful}
 use Rattle.ir_rules.proofs.Laws.{Lawful, either_lawful, made_lawful, seq_lawful, within_lawful}
 use Rattle.ir_rules.proofs.Leaves.{leaf_lawful, lined_lawful}
 use Rattle.ir_rules.proofs.Examples.{example}
-use Rattle.ir_rules.proofs.Words.{after_law, before_law}
-use Rattle.ir_body.specs.Blocks.{PhiParts, after_statement, block_forms, block_of, blocks, doing_goes, doings, first_place, further, further_entries, further_forms, further_list, is_entry, labels, parts_in, phi_entries, phi_entry_forms, phi_entry_of, phi_forms, phi_or_op, phi_or_op_forms, phi_parts_of, phis, results, statement_forms, statement_lists, statement_of, statement_starts, statements}
-use Rattle.ir_body.specs.Names.{name_of}
-use Rattle.ir_body.proofs.AttributeLaws.{attachment_law}
-use Rattle.ir_body.proofs.OperationLaws.{entry_ops_law, plain_ops_law}
-use Rattle.ir_body.proofs.TermLaws.{terms_law}
-use Rattle.ir_body.proofs.TypeLaws.{local_names_law, local_uses_law, types_law}
-use Rattle.ir_body.proofs.ValueLaws.{operands_law}
-
-pub phi_entries_law : Lawful phi_entries
-unfolding phi_entry_forms
-phi_entries_law =
-    within_lawful _ _ _ _ (made_lawful phi_entry_of _ (before_law class.OpenSquare _ refl refl (seq_lawful _ _ (operands_law 64)
-    (before_law class.Comma _ refl refl (after_law _ class.CloseSquare refl refl local_uses_law refl)) refl))) refl refl refl
-
-pub further_law : (before : Bool) → Lawful (further before)
-unfolding further further_forms
-further_law true =
-    within_lawful _ _ _ _ (before_law class.Comma _ refl refl (either_lawful _ _ (made_lawful (λ (u : Unit {0}). None) _ attachment_law)
-    (made_lawful (λ (e : PhiEntry). Some e) _ phi_entries_law) refl refl)) refl refl refl
-further_law false = within_lawful _ _ _ _ (before_law class.Comma _ refl refl (made_lawful (λ (u : Unit {0}). None) _ attachment_law)) refl refl refl
-
-pub further_empty : (before : Bool) → (further before).empty ≡ false
-unfolding further
-further_empty true = refl
-further_empty false = refl
-
-further_starts : (before : Bool) → all_in (further before).starts (class.Comma ∷ []) ≡ true
-unfolding further
-further_starts true = refl
-further_starts false = refl
-
-further_goes : (before : Bool) → all_in (further before).goes [] ≡ true
-unfolding further
-further_goes true = refl
-further_goes false = refl
-
-pub further_entries_law : Lawful further_entries
-unfolding further_list
-further_entries_law =
-    within_lawful _ _ _ _ (made_lawful (λ (found : List (Option PhiEntry)). filter_map (λ e. e) found) _
-    (chain_lawful (class.Comma ∷ []) [] further is_entry further_law further_empty further_starts further_goes refl true)) refl refl refl
-
-phis_law : Lawful phis
-unfolding phi_forms
-phis_law =
-    within_lawful _ _ _ _ (made_lawful phi_parts_of _ (before_law class.Phi _ refl refl (seq_lawful _ _ (types_law 64)
-    (seq_lawful _ _ phi_entries_law further_entries_law refl) refl))) refl refl refl
+use Rattle.ir_rules.proofs.Words.{after_law}
+use Rattle.ir_body.specs.Blocks.{after_statement, block_forms, block_of, blocks, doing_goes, doings, first_place, labels, parts_in, phi_or_op, phi_or_op_forms, results, statement_forms, statement_lists, statement_of, statement_starts, statements}
+use Rattle.ir_terms.specs.Phis.{PhiParts}
+use Rattle.ir_terms.proofs.PhiLaws.{phis_law}
+use Rattle.ir_types.specs.Names.{name_of}
+use Rattle.ir_ops.proofs.OperationLaws.{entry_ops_law, plain_ops_law}
+use Rattle.ir_terms.proofs.TermLaws.{terms_law}
+use Rattle.ir_types.proofs.TypeLaws.{local_names_law}
 
 pub results_law : Lawful results
 results_law = after_law _ class.Equal refl refl local_names_law refl

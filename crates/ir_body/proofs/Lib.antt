@@ -1,14 +1,1 @@
-pub mod AttributeLaws
 pub mod BlockLaws
-pub mod CallLaws
-pub mod Capping
-pub mod IndexSteps
-pub mod IntegerWidths
-pub mod OperationLaws
-pub mod Starts
-pub mod TailLaws
-pub mod TermLaws
-pub mod TypeLaws
-pub mod Unescaping
-pub mod ValueLaws
-pub mod WrapSteps

@@ -1,9 +1,1 @@
-pub mod Attributes
 pub mod Blocks
-pub mod Calls
-pub mod Names
-pub mod Operations
-pub mod Tails
-pub mod Terms
-pub mod Types
-pub mod Values

@@ -4,12 +4,12 @@ ghost use Rattle.ir_body.specs.Blocks.{blocks, first_place, labels};
 ghost use Rattle.ir_rules.specs.Reading.{Gives};
 ghost use Rattle.ir_rules.specs.Rules.{option};
 
-use crate::names::name_of;
 use crate::statement::Place;
 use crate::statements::read_block_parts;
-use crate::terms::read_term;
 use ir_rules::End;
 use ir_syntax::{Block, Name};
+use ir_terms::read_term;
+use ir_types::name_of;
 use ir_words::{Class, Rest};
 use std::alloc::Global;
 

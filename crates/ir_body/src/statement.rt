@@ -2,7 +2,7 @@
 use ir_syntax::{Instr, Op, Phi, PhiEntries, TyText};
 
 /// A phi or an operation, without its line and its name.
-#[derive(Debug, Drop)]
+#[derive(Drop)]
 pub(crate) enum Doing {
     /// A phi: its type and its entries.
     Joins(TyText, PhiEntries),
@@ -11,7 +11,7 @@ pub(crate) enum Doing {
 }
 
 /// What stands before the terminator.
-#[derive(Debug, Drop)]
+#[derive(Drop)]
 pub(crate) enum Statement {
     /// A phi.
     Joining(Phi),
@@ -22,7 +22,7 @@ pub(crate) enum Statement {
 }
 
 /// Which block it is, and what stood in it so far.
-#[derive(Clone, Copy, Debug, PartialEq, Eq)]
+#[derive(Clone, Copy)]
 pub(crate) enum Place {
     /// The first block of a function.
     Entry,

@@ -4,12 +4,12 @@ ghost use Rattle.ir_body.specs.Blocks.{after_statement, block_parts, doings, giv
 ghost use Rattle.ir_rules.specs.Reading.{Gives};
 ghost use Rattle.ir_rules.specs.Rules.{has, option};
 
-use crate::operations::{read_entry_op, read_plain_op};
-use crate::phis::read_phi;
 use crate::statement::{Doing, Place, Statement};
-use crate::types::read_local_name;
+use ir_ops::{read_entry_op, read_plain_op};
 use ir_rules::{End, word};
 use ir_syntax::{Instr, Instrs, Name, Op, Phi, Phis};
+use ir_terms::read_phi;
+use ir_types::read_local_name;
 use ir_words::{Class, Rest};
 use std::alloc::{AllocError, Global};
 

@@ -9,12 +9,12 @@ use Rattle.ir_rules.proofs.Derived.{option_lawful}
 use Rattle.ir_rules.proofs.Laws.{Lawful, either_lawful, made_lawful, seq_lawful, within_lawful}
 use Rattle.ir_rules.proofs.Leaves.{leading_lawful}
 use Rattle.ir_rules.proofs.Words.{before_law, word_law}
-use Rattle.ir_body.proofs.AttributeLaws.{round_brackets_law}
-use Rattle.ir_body.proofs.TypeLaws.{local_uses_law, structs_law, types_law}
+use Rattle.ir_attributes.proofs.AttributeLaws.{round_brackets_law}
+use Rattle.ir_types.proofs.TypeLaws.{local_uses_law, structs_law, types_law}
 use Rattle.ir_read.specs.Entities.{attribute_group, dropped_entities, dropped_forms, entities, entity_forms, metadata, metadata_body, module_forms, modules, source_filename, target, type_def_forms, type_def_of, type_defs}
 use Rattle.ir_names.specs.declared.entity.Entity.{Entity}
-use Rattle.ir_read.proofs.FunctionLaws.{declarations_law, definitions_law}
-use Rattle.ir_read.proofs.VariableLaws.{global_entities_law}
+use Rattle.ir_functions.proofs.FunctionLaws.{declarations_law, definitions_law}
+use Rattle.ir_globals.proofs.VariableLaws.{global_entities_law}
 
 source_filename_law : Lawful source_filename
 source_filename_law = before_law class.SourceFilename _ refl refl (before_law class.Equal _ refl refl (word_law class.Str refl refl))

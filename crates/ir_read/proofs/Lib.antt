@@ -1,16 +1,11 @@
 pub mod Begun
 pub mod BlockParts
-pub mod BlockStarts
 pub mod Ends
 pub mod EntityLaws
-pub mod FunctionLaws
-pub mod HeadLaws
-pub mod InitialiserLaws
 pub mod Kept
 pub mod Naming
 pub mod OneAnswer
 pub mod Placing
 pub mod Settled
 pub mod Unended
-pub mod VariableLaws
 pub mod Walks

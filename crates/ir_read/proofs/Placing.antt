@@ -19,11 +19,11 @@ use Rattle.ir_body.specs.Blocks.{blocks}
 use Rattle.ir_body.proofs.BlockLaws.{blocks_law}
 use Rattle.ir_read.specs.Entities.{entities, entity_starts, modules}
 use Rattle.ir_read.specs.FirstBlocks.{IsInFirstBlock, TellsFirstBlock, is_bad, stops_behind, stops_in_block}
-use Rattle.ir_read.specs.Functions.{Front, openings}
+use Rattle.ir_functions.specs.Functions.{Front, openings}
 use Rattle.ir_names.specs.declared.entity.Entity.{Entity}
 use Rattle.ir_read.proofs.BlockParts.{entity_bad, module_bad, module_begun, opening_begins}
 use Rattle.ir_read.proofs.EntityLaws.{entities_law, modules_law}
-use Rattle.ir_read.proofs.FunctionLaws.{openings_law}
+use Rattle.ir_functions.proofs.FunctionLaws.{openings_law}
 use Rattle.ir_read.proofs.Unended.{unended_stops}
 use Rattle.ir_read.proofs.Walks.{after_items, walk_bad, walk_same, walk_text}
 

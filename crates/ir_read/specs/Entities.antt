@@ -8,10 +8,10 @@ use Rattle.ir_rules.specs.Balance.{enclosed}
 use Rattle.ir_rules.specs.Leaves.{leading}
 use Rattle.ir_rules.specs.Rules.{Rule, ◌▷◌, each, either, made, option, seq, within, word}
 use Rattle.ir_rules.specs.declared.bracket.Bracket.TheVariants.{Curly}
-use Rattle.ir_body.specs.Attributes.{round_brackets}
-use Rattle.ir_body.specs.Types.{local_uses, structs, types}
-use Rattle.ir_read.specs.Functions.{declarations, definitions, suffix_goes}
-use Rattle.ir_read.specs.Variables.{global_entities}
+use Rattle.ir_attributes.specs.Attributes.{round_brackets}
+use Rattle.ir_types.specs.Types.{local_uses, structs, types}
+use Rattle.ir_functions.specs.Functions.{declarations, definitions, suffix_goes}
+use Rattle.ir_globals.specs.Variables.{global_entities}
 use Rattle.ir_names.specs.declared.entity.Entity.{Entity}
 use Rattle.ir_names.specs.declared.entity.Entity.TheVariants as entity
 

@@ -1,9 +1,4 @@
-pub mod BlockWords
 pub mod Entities
 pub mod FirstBlocks
-pub mod Functions
-pub mod Heads
-pub mod Initialisers
 pub mod Modules
 pub mod Refusals
-pub mod Variables

@@ -6,7 +6,7 @@ ghost use Rattle.ir_rules.specs.Reading.{Gives};
 ghost use Rattle.ir_rules.specs.Rules.{either, option, word};
 ghost use Rattle.ir_read.specs.Entities.{attribute_group, dropped_entities, metadata, metadata_body, metadata_kind, source_filename, target};
 
-use ir_body::skip_round_brackets;
+use ir_attributes::skip_round_brackets;
 use ir_rules::{Bracket, End, skip_enclosed, word};
 use ir_words::{Class, Rest};
 use std::alloc::Global;

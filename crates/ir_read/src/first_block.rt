@@ -3,9 +3,9 @@ ghost use Rattle.std.specs.Prelude.{◌≡◌, true, IfOk};
 ghost use Rattle.ir_body.specs.Blocks.{blocks};
 ghost use Rattle.ir_read.specs.FirstBlocks.{TellsFirstBlock, is_bad, stops_in_block};
 
-use crate::functions::read_opening;
 use crate::top::{begins_entity, read_entity};
 use ir_body::read_block;
+use ir_functions::read_opening;
 use ir_rules::End;
 use ir_words::Rest;
 use std::alloc::Global;
@@ -15,7 +15,10 @@ fn stops_in_block(alloc: Global, rest: Rest<'_>) -> Result<bool, End>
     ensures { IfOk result (λ stops. stops ≡ stops_in_block rest.entry) }
 {
     match read_opening(alloc, rest) {
-        Ok((_opening, rest)) => begins_no_block(alloc, rest),
+        Ok((opening, rest)) => {
+            drop(opening);
+            begins_no_block(alloc, rest)
+        }
         Err(End::Bad(_)) => Ok(false),
         Err(End::NoMemory) => Err(End::NoMemory),
     }
@@ -26,7 +29,10 @@ fn begins_no_block(alloc: Global, rest: Rest<'_>) -> Result<bool, End>
     ensures { IfOk result (λ stops. stops ≡ is_bad ((blocks true).read rest.entry)) }
 {
     match read_block(alloc, rest, true) {
-        Ok(_) => Ok(false),
+        Ok((block, _rest)) => {
+            drop(block);
+            Ok(false)
+        }
         Err(End::Bad(_)) => Ok(true),
         Err(End::NoMemory) => Err(End::NoMemory),
     }
@@ -44,7 +50,10 @@ pub(crate) fn is_in_first_block(alloc: Global, rest: Rest<'_>) -> Result<bool, E
     let mut rest = rest;
     while begins_entity(rest.first()) {
         rest = match read_entity(alloc, rest.copy()) {
-            Ok((_found, after)) => after,
+            Ok((found, after)) => {
+                drop(found);
+                after
+            }
             Err(End::Bad(_)) => return stops_in_block(alloc, rest),
             Err(End::NoMemory) => return Err(End::NoMemory),
         };

@@ -6,12 +6,12 @@ ghost use Rattle.ir_rules.specs.Rules.{has};
 ghost use Rattle.ir_read.specs.Entities.{entities, entity_starts, kept_entities, modules, nothing_kept, type_defs};
 
 use crate::dropped::skip_dropped;
-use crate::functions::{read_declaration, read_definition};
-use crate::variables::read_global_entity;
-use ir_body::{read_local_use, read_struct};
+use ir_functions::{read_declaration, read_definition};
+use ir_globals::read_global_entity;
 use ir_names::Entity;
 use ir_rules::{End, word};
 use ir_syntax::{NameUse, TypeDef};
+use ir_types::{read_local_use, read_struct};
 use ir_words::{Class, Rest};
 use std::alloc::Global;
 

@@ -11,11 +11,11 @@ returns-in-Err-Bad c =
     placed_by c.args.rest c.loop-rest.rest c.loop-rest.invariant.0 c.loop-rest.invariant.1 c.in-Err-Bad.field-0-0 (search rules) c.stops_in_block.result c.stops_in_block.ensures
 
 pub loop-rest-smaller : goal.loop-rest-smaller
-loop-rest-smaller c = read_shorter entities entities_law refl c.loop-rest.rest (c.in-Ok._found, c.in-Ok.after) (search rules)
+loop-rest-smaller c = read_shorter entities entities_law refl c.loop-rest.rest (c.in-Ok.found, c.in-Ok.after) (search rules)
 
 pub loop-rest-preserved : goal.loop-rest-preserved
 loop-rest-preserved c =
-    (suc c.loop-rest.invariant.0, one_more entities c.loop-rest.invariant.0 c.args.rest c.loop-rest.rest (c.in-Ok._found, c.in-Ok.after) c.loop-rest.invariant.1 (search rules))
+    (suc c.loop-rest.invariant.0, one_more entities c.loop-rest.invariant.0 c.args.rest c.loop-rest.rest (c.in-Ok.found, c.in-Ok.after) c.loop-rest.invariant.1 (search rules))
 
 pub returns : goal.returns
 returns c = placed_outside c.args.rest c.loop-rest.rest c.loop-rest.invariant.0 c.loop-rest.invariant.1 (search rules)

@@ -1,0 +1,153 @@
+//! Attributes and attached metadata (LangRef, "Parameter Attributes" and "Metadata").
+ghost use Rattle.std.specs.Prelude.{◌≡◌, [], ◌∷◌, None};
+ghost use Rattle.ir_attributes.specs.Attributes.{alignment_of, alignments, an_attribute, attachment, attachments, attributes, later, no_alignment, round_brackets};
+ghost use Rattle.ir_rules.specs.Reading.{Gives};
+ghost use Rattle.ir_rules.specs.Rules.{has, made, option, word, ◌▷◌};
+ghost use Rattle.ir_words.specs.declared.class.Class.TheVariants.{Align, Attr, Attribute, Equal, Str};
+
+use ir_rules::{Bracket, End, skip_enclosed, word};
+use ir_syntax::Literal;
+use ir_types::read_literal;
+use ir_words::{Class, Rest};
+use std::alloc::Global;
+
+/// An alignment as an item keeps it: one below 0 or above 2^63 is kept as 0, which none may be.
+fn alignment_of(literal: Literal) -> u64
+    ensures { result ≡ alignment_of literal }
+{
+    if literal.negative || literal.magnitude > 1 << 63 {
+        0
+    } else {
+        literal.magnitude as u64
+    }
+}
+
+/// Reads `align` and a number.
+///
+/// # Errors
+///
+/// `Bad` at the first token that can't stand there.
+pub fn read_alignment<'t>(rest: Rest<'t>) -> Result<(u64, Rest<'t>), End>
+    ensures { Gives (λ x. x) result (alignments.read rest.entry) }
+{
+    let rest = word(rest, Class::Align)?;
+    let (literal, rest) = read_literal(rest)?;
+    Ok((alignment_of(literal), rest))
+}
+
+/// Reads two metadata names.
+///
+/// # Errors
+///
+/// `Bad` at the first token that can't stand there.
+pub fn read_attachment<'t>(rest: Rest<'t>) -> Result<Rest<'t>, End>
+    ensures { Gives (λ rest. (tt, rest)) result (attachment.read rest.entry) }
+{
+    let rest = word(rest, Class::Meta)?;
+    word(rest, Class::Meta)
+}
+
+/// Reads attached metadata, each after a comma.
+///
+/// # Errors
+///
+/// `Bad` at the first token that can't stand there.
+#[tactic(auto, unfolding(crate::specs::Attributes::attachment_list))]
+pub fn skip_attachments<'t>(rest: Rest<'t>) -> Result<Rest<'t>, End>
+    ensures { Gives (λ rest. (tt, rest)) result (attachments.read rest.entry) }
+{
+    let mut rest = rest;
+    while rest.first() == Class::Comma {
+        rest = read_attachment(rest.skip())?;
+    }
+    Ok(rest)
+}
+
+/// Reads `(`, all up to the `)` that closes it, and that one.
+///
+/// # Errors
+///
+/// `Bad` at the first token that can't stand there, `NoMemory` if memory runs out.
+pub fn skip_round_brackets<'t>(alloc: Global, rest: Rest<'t>) -> Result<Rest<'t>, End>
+    ensures { Gives (λ rest. (tt, rest)) result (round_brackets.read rest.entry) }
+{
+    skip_enclosed(alloc, rest, Bracket::Round)
+}
+
+/// Reads the word of an attribute, and what it says between brackets.
+fn skip_word_attribute<'t>(alloc: Global, rest: Rest<'t>) -> Result<Rest<'t>, End>
+    ensures { Gives (λ rest. (None, rest)) result ((made no_alignment (Attribute ▷ option round_brackets)).read rest.entry) }
+{
+    let rest = word(rest, Class::Attribute)?;
+    match rest.first() {
+        Class::OpenRound => skip_round_brackets(alloc, rest),
+        _ => Ok(rest),
+    }
+}
+
+/// Reads a string as an attribute, and the string that is its value.
+fn skip_string_attribute<'t>(rest: Rest<'t>) -> Result<Rest<'t>, End>
+    ensures { Gives (λ rest. (None, rest)) result ((made no_alignment (Str ▷ option (Equal ▷ word Str))).read rest.entry) }
+{
+    let rest = word(rest, Class::Str)?;
+    match rest.first() {
+        Class::Equal => word(rest.skip(), Class::Str),
+        _ => Ok(rest),
+    }
+}
+
+/// Reads an attribute; an alignment alone is kept.
+///
+/// # Errors
+///
+/// `Bad` at the first token that can't stand there, `NoMemory` if memory runs out.
+#[tactic(auto, unfolding(crate::specs::Attributes::attribute_forms))]
+pub fn read_attribute<'t>(alloc: Global, rest: Rest<'t>) -> Result<(Option<u64>, Rest<'t>), End>
+    ensures { Gives (λ x. x) result (an_attribute.read rest.entry) }
+{
+    match rest.first() {
+        Class::Attribute => Ok((None, skip_word_attribute(alloc, rest)?)),
+        Class::Align => {
+            let (alignment, rest) = read_alignment(rest)?;
+            Ok((Some(alignment), rest))
+        }
+        Class::Str => Ok((None, skip_string_attribute(rest)?)),
+        _ => Ok((None, word(rest, Class::Attr)?)),
+    }
+}
+
+/// Whether a token of a class begins an attribute.
+fn begins_attribute(class: Class) -> bool
+    ensures { result ≡ has (Attribute ∷ Align ∷ Str ∷ Attr ∷ []) class }
+{
+    matches!(
+        class,
+        Class::Attribute | Class::Align | Class::Str | Class::Attr
+    )
+}
+
+/// The alignment after one more attribute: the last one counts.
+pub fn later(before: Option<u64>, found: Option<u64>) -> Option<u64>
+    ensures { result ≡ later before found }
+{
+    found.or(before)
+}
+
+/// Reads attributes; of several alignments the last one counts.
+///
+/// # Errors
+///
+/// `Bad` at the first token that can't stand there, `NoMemory` if memory runs out.
+#[tactic(auto, unfolding(crate::specs::Attributes::attribute_list))]
+pub fn read_attributes<'t>(alloc: Global, rest: Rest<'t>) -> Result<(Option<u64>, Rest<'t>), End>
+    ensures { Gives (λ x. x) result (attributes.read rest.entry) }
+{
+    let mut rest = rest;
+    let mut last = None;
+    while begins_attribute(rest.first()) {
+        let (found, after) = read_attribute(alloc, rest)?;
+        last = later(last, found);
+        rest = after;
+    }
+    Ok((last, rest))
+}

@@ -1,0 +1,20 @@
+use Rattle.std.proofs.Common.{refl, rules}
+use Rattle.ir_rules.proofs.Folds.{skipped_ends, skipped_err, skipped_push}
+use Rattle.ir_rules.proofs.Whole.{read_shorter}
+use Rattle.ir_calls.specs.Calls.{convention}
+use Rattle.ir_calls.proofs.CallLaws.{convention_law}
+use Rattle.ir_calls.proofs.calls.skip_conventions.Goals as goal
+
+pub returns-in_err-rest : goal.returns-in_err-rest
+returns-in_err-rest c =
+    skipped_err convention convention_law refl refl _ (λ r. (tt, r)) c.in_err-rest.field-0.0 _ c.loop-rest.rest _ (search rules) (search rules) (search rules)
+    c.loop-rest.invariant
+
+pub loop-rest-smaller : goal.loop-rest-smaller
+loop-rest-smaller c = read_shorter convention convention_law refl c.loop-rest.rest (tt, c.in_ok-rest.rest) (search rules)
+
+pub loop-rest-preserved : goal.loop-rest-preserved
+loop-rest-preserved c = skipped_push convention convention_law refl refl tt c.loop-rest.rest c.in_ok-rest.rest _ (search rules) c.loop-rest.invariant
+
+pub returns : goal.returns
+returns c = skipped_ends convention convention_law refl refl c.loop-rest.rest _ c.loop-rest.invariant (search rules)

@@ -1,0 +1,2 @@
+pub mod BlockStarts
+pub mod FunctionLaws

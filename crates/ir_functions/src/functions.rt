@@ -1,0 +1,222 @@
+//! Functions, declared and defined (LangRef, "Functions").
+ghost use Rattle.std.specs.Prelude.{◌≡◌, Some, None, if◌then◌else◌};
+ghost use Rattle.ir_words.specs.declared.class.Class.TheVariants.{External};
+ghost use Rattle.ir_rules.specs.Reading.{Gives};
+ghost use Rattle.ir_rules.specs.Rules.{has, option, word};
+ghost use Rattle.ir_body.specs.Blocks.{block_starts};
+ghost use Rattle.ir_functions.specs.BlockWords.{computation_words, instruction_words, other_starts};
+ghost use Rattle.ir_functions.specs.Functions.{block_lists, closed_blocks, declarations, definitions, front_of, function_of, openings};
+ghost use Rattle.ir_prototypes.specs.Prototypes.{signature_of};
+
+use crate::opening::Opening;
+use ir_body::read_block;
+use ir_globals::read_linkage;
+use ir_names::Entity;
+use ir_prototypes::{
+    Prototype, read_declared_signature, read_defined_signature, skip_declared_ends,
+    skip_defined_ends, skip_metadata,
+};
+use ir_rules::{End, word};
+use ir_syntax::{Block, Blocks, Function, Linkage, NameUse};
+use ir_words::{Class, Rest};
+use std::alloc::Global;
+
+/// The function on a line; without blocks it is declared.
+fn function_of(
+    line: u32,
+    linkage: Linkage,
+    prototype: Prototype,
+    blocks: Option<Blocks>,
+) -> Function
+    ensures { result ≡ function_of line linkage (signature_of prototype) blocks }
+{
+    let Prototype {
+        visibility,
+        result,
+        name: place,
+        params,
+    } = prototype;
+    let NameUse {
+        line: name_line,
+        name,
+    } = place;
+    Function {
+        line,
+        name,
+        name_line,
+        linkage,
+        visibility,
+        result,
+        params,
+        blocks,
+    }
+}
+
+/// Reads `external`, where it stands: whether it does.
+fn read_external<'t>(rest: Rest<'t>) -> Result<(bool, Rest<'t>), End>
+    ensures { Gives (λ x. (if x.0 then Some tt else None, x.1)) result ((option (word External)).read rest.entry) }
+{
+    match rest.first() {
+        Class::External => Ok((true, rest.skip())),
+        _ => Ok((false, rest)),
+    }
+}
+
+/// Reads the declaration of a function.
+///
+/// # Errors
+///
+/// `Bad` at the first token that can't stand there, `NoMemory` if memory runs out.
+#[tactic(auto, unfolding(crate::specs::Functions::declaration_forms))]
+pub fn read_declaration<'t>(alloc: Global, rest: Rest<'t>) -> Result<(Entity, Rest<'t>), End>
+    ensures { Gives (λ x. (Some x.0, x.1)) result (declarations.read rest.entry) }
+{
+    let line = rest.line();
+    let rest = word(rest, Class::Declare)?;
+    let rest = skip_metadata(rest)?;
+    let (_, rest) = read_external(rest)?;
+    let (prototype, rest) = read_declared_signature(alloc, rest)?;
+    let rest = skip_declared_ends(alloc, rest)?;
+    let function = function_of(line, Linkage::External, prototype, None);
+    Ok((Entity::Function(function), rest))
+}
+
+/// Whether a token of a class is the word of a computation.
+fn begins_computation(class: Class) -> bool
+    ensures { result ≡ has computation_words class }
+{
+    matches!(
+        class,
+        Class::Add
+            | Class::Sub
+            | Class::Mul
+            | Class::Shl
+            | Class::Udiv
+            | Class::Sdiv
+            | Class::Lshr
+            | Class::Ashr
+            | Class::Urem
+            | Class::Srem
+            | Class::And
+            | Class::Or
+            | Class::Xor
+            | Class::Icmp
+            | Class::Select
+    )
+}
+
+/// Whether a token of a class is the word of another instruction.
+fn begins_instruction(class: Class) -> bool
+    ensures { result ≡ has instruction_words class }
+{
+    matches!(
+        class,
+        Class::Trunc
+            | Class::Zext
+            | Class::Sext
+            | Class::Ptrtoint
+            | Class::Inttoptr
+            | Class::Bitcast
+            | Class::Freeze
+            | Class::Getelementptr
+            | Class::Load
+            | Class::Store
+            | Class::Tail
+            | Class::Notail
+            | Class::Call
+    )
+}
+
+/// Whether a token of a class begins a block, other than by an instruction of those.
+fn begins_otherwise(class: Class) -> bool
+    ensures { result ≡ has other_starts class }
+{
+    matches!(
+        class,
+        Class::Label
+            | Class::Ret
+            | Class::Br
+            | Class::Switch
+            | Class::Unreachable
+            | Class::Local
+            | Class::Phi
+            | Class::Alloca
+    )
+}
+
+/// Whether a token of a class begins a block.
+#[tactic(auto, using(crate::proofs::BlockStarts::begins_by_parts))]
+fn begins_block(class: Class) -> bool
+    ensures { result ≡ has block_starts class }
+{
+    begins_otherwise(class) | begins_computation(class) | begins_instruction(class)
+}
+
+/// Reads the blocks of a function.
+fn read_blocks<'t>(alloc: Global, rest: Rest<'t>) -> Result<(Vec<Block>, Rest<'t>), End>
+    ensures { Gives (λ x. (x.0.items, x.1)) result (block_lists.read rest.entry) }
+{
+    let mut list = Vec::new(alloc);
+    let (first, after) = read_block(alloc, rest, true)?;
+    list.push(first)?;
+    let mut rest = after;
+    while begins_block(rest.first()) {
+        let (block, after) = read_block(alloc, rest, false)?;
+        list.push(block)?;
+        rest = after;
+    }
+    Ok((list, rest))
+}
+
+/// Reads the blocks of a function, and the bracket behind them.
+#[tactic(auto, unfolding(crate::specs::Functions::closed_block_forms))]
+fn read_closed_blocks<'t>(alloc: Global, rest: Rest<'t>) -> Result<(Blocks, Rest<'t>), End>
+    ensures { Gives (λ x. x) result (closed_blocks.read rest.entry) }
+{
+    let (list, rest) = read_blocks(alloc, rest)?;
+    let rest = word(rest, Class::CloseCurly)?;
+    Ok((Blocks::from_vec(list), rest))
+}
+
+/// Reads the front of a definition, up to the bracket before its first block.
+///
+/// # Errors
+///
+/// `Bad` at the first token that can't stand there, `NoMemory` if memory runs out.
+#[tactic(auto, unfolding(crate::specs::Functions::opening_forms))]
+pub fn read_opening<'t>(alloc: Global, rest: Rest<'t>) -> Result<(Opening, Rest<'t>), End>
+    ensures { Gives (λ x. (front_of x.0, x.1)) result (openings.read rest.entry) }
+{
+    let line = rest.line();
+    let rest = word(rest, Class::Define)?;
+    let (linkage, rest) = read_linkage(rest)?;
+    let (prototype, rest) = read_defined_signature(alloc, rest)?;
+    let rest = skip_defined_ends(alloc, rest)?;
+    let rest = word(rest, Class::OpenCurly)?;
+    let opening = Opening {
+        line,
+        linkage,
+        prototype,
+    };
+    Ok((opening, rest))
+}
+
+/// Reads the definition of a function.
+///
+/// # Errors
+///
+/// `Bad` at the first token that can't stand there, `NoMemory` if memory runs out.
+#[tactic(auto, unfolding(crate::specs::Functions::definition_forms))]
+pub fn read_definition<'t>(alloc: Global, rest: Rest<'t>) -> Result<(Entity, Rest<'t>), End>
+    ensures { Gives (λ x. (Some x.0, x.1)) result (definitions.read rest.entry) }
+{
+    let (opening, rest) = read_opening(alloc, rest)?;
+    let (blocks, rest) = read_closed_blocks(alloc, rest)?;
+    let Opening {
+        line,
+        linkage,
+        prototype,
+    } = opening;
+    let function = function_of(line, linkage, prototype, Some(blocks));
+    Ok((Entity::Function(function), rest))
+}

@@ -1,0 +1,23 @@
+use Rattle.std.proofs.Common.{refl, rules}
+use Rattle.ir_rules.proofs.Folds.{folded_ends, folded_err, folded_push}
+use Rattle.ir_rules.proofs.Whole.{read_shorter}
+use Rattle.ir_attributes.specs.Attributes.{later}
+use Rattle.ir_globals.specs.Variables.{variable_tail}
+use Rattle.ir_globals.proofs.VariableLaws.{variable_tail_law}
+use Rattle.ir_globals.proofs.variables.read_variable_tails.Goals as goal
+
+pub returns-in_err-found : goal.returns-in_err-found
+returns-in_err-found c =
+    folded_err variable_tail variable_tail_law refl refl later _ (λ x. x) c.in_err-found.field-0.0 _ c.loop-rest.align c.loop-rest.rest _
+    (search rules) (search rules) (search rules) c.loop-rest.invariant
+
+pub loop-rest-smaller : goal.loop-rest-smaller
+loop-rest-smaller c = read_shorter variable_tail variable_tail_law refl c.loop-rest.rest (c.in_ok-found.found, c.in_ok-found.after) (search rules)
+
+pub loop-rest-preserved : goal.loop-rest-preserved
+loop-rest-preserved c =
+    folded_push variable_tail variable_tail_law refl refl later c.loop-rest.align c.later-align.result c.in_ok-found.found c.loop-rest.rest c.in_ok-found.after
+    _ (search rules) (search rules) c.loop-rest.invariant
+
+pub returns : goal.returns
+returns c = folded_ends variable_tail variable_tail_law refl refl later c.loop-rest.align c.loop-rest.rest _ c.loop-rest.invariant (search rules)

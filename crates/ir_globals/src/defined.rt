@@ -1,0 +1,60 @@
+//! Global variables and aliases as the text defines them, before they have names (LangRef, "Global
+//! Variables" and "Aliases").
+ghost use Rattle.std.specs.Prelude.{◌≡◌};
+ghost use Rattle.ir_globals.specs.Variables.{shown_entity};
+
+use ir_names::Entity;
+use ir_syntax::{Alias, AliasBase, Global, Init, Linkage, NameUse, TyText, TypeTexts, Visibility};
+
+/// What follows the name of a global variable or an alias.
+#[derive(Drop)]
+pub(crate) enum Defined {
+    /// A variable: whether it is constant, its type, its initialiser, and its alignment in bytes.
+    Variable(bool, TyText, Option<Init>, Option<u64>),
+    /// An alias: its type or its result's, its parameters' types, and what it stands for.
+    SecondName(Option<TyText>, Option<TypeTexts>, AliasBase),
+}
+
+/// What is defined, and who sees it.
+#[derive(Drop)]
+pub(crate) struct Shown {
+    /// Who sees it.
+    pub(crate) linkage: Linkage,
+    /// How it is seen from outside.
+    pub(crate) visibility: Visibility,
+    /// What it is.
+    pub(crate) defined: Defined,
+}
+
+/// The item of this name.
+pub(crate) fn entity_of(name: NameUse, shown: Shown) -> Entity
+    ensures { result ≡ shown_entity name shown }
+{
+    let NameUse { line, name } = name;
+    let Shown {
+        linkage,
+        visibility,
+        defined,
+    } = shown;
+    match defined {
+        Defined::Variable(constant, ty, init, align) => Entity::Global(Global {
+            line,
+            name,
+            linkage,
+            visibility,
+            constant,
+            ty,
+            init,
+            align,
+        }),
+        Defined::SecondName(result, params, base) => Entity::Alias(Alias {
+            line,
+            name,
+            linkage,
+            visibility,
+            result,
+            params,
+            base,
+        }),
+    }
+}

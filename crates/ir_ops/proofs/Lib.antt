@@ -1,0 +1,3 @@
+pub mod IndexSteps
+pub mod OperationLaws
+pub mod TailLaws

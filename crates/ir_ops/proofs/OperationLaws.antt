@@ -1,0 +1,84 @@
+-- The rules of operations on memory, and of all operations, keep the laws.
+use Rattle.std.proofs.Common.{◌≡◌, Bool, true, false, List, [], ◌∷◌, Some, None, refl}
+use Rattle.std.specs.Prelude.{Option, filter_map}
+use Rattle.ir_syntax.specs.declared.operand.TypedOperand.{TypedOperand}
+use Rattle.ir_words.specs.declared.class.Class.TheVariants as class
+use Rattle.ir_rules.specs.Rules.{all_in}
+use Rattle.ir_rules.proofs.Chains.{chain_lawful}
+use Rattle.ir_rules.proofs.Laws.{Lawful, either_lawful, made_lawful, seq_lawful, within_lawful}
+use Rattle.ir_rules.proofs.Leaves.{ending_lawful}
+use Rattle.ir_rules.proofs.Words.{before_law, flag_law}
+use Rattle.ir_ops.specs.Operations.{alloca_forms, alloca_of, allocas, entry_op_forms, entry_ops, gep_forms, gep_of, geps, index_forms, index_list_forms, index_lists, index_tail, is_index, kept, load_forms, load_of, loads, memory_op_forms, memory_ops, plain_op_forms, plain_ops, store_forms, store_of, stores}
+use Rattle.ir_attributes.proofs.AttributeLaws.{attachment_law, attachments_law}
+use Rattle.ir_calls.proofs.CallLaws.{calls_law}
+use Rattle.ir_ops.proofs.TailLaws.{align_tail_law, alloca_tail_law}
+use Rattle.ir_types.proofs.TypeLaws.{types_law}
+use Rattle.ir_values.proofs.ValueLaws.{typed_operands_law}
+use Rattle.ir_value_ops.proofs.ValueOpLaws.{value_ops_law}
+
+pub index_tail_law : (before : Bool) → Lawful (index_tail before)
+unfolding index_tail index_forms
+index_tail_law true =
+    within_lawful _ _ _ _ (before_law class.Comma _ refl refl (either_lawful _ _ (made_lawful (λ (u : Unit {0}). None) _ attachment_law)
+    (made_lawful (λ (o : TypedOperand). Some o) _ typed_operands_law) refl refl)) refl refl refl
+index_tail_law false = within_lawful _ _ _ _ (before_law class.Comma _ refl refl (made_lawful (λ (u : Unit {0}). None) _ attachment_law)) refl refl refl
+
+-- the sets of both states are the same
+pub index_empty : (before : Bool) → (index_tail before).empty ≡ false
+unfolding index_tail
+index_empty true = refl
+index_empty false = refl
+
+index_starts : (before : Bool) → all_in (index_tail before).starts (class.Comma ∷ []) ≡ true
+unfolding index_tail
+index_starts true = refl
+index_starts false = refl
+
+index_goes : (before : Bool) → all_in (index_tail before).goes [] ≡ true
+unfolding index_tail
+index_goes true = refl
+index_goes false = refl
+
+pub index_lists_law : Lawful index_lists
+unfolding index_list_forms
+index_lists_law =
+    within_lawful _ _ _ _ (made_lawful (λ (found : List (Option TypedOperand)). filter_map (λ o. o) found) _
+    (chain_lawful (class.Comma ∷ []) [] index_tail is_index index_tail_law index_empty index_starts index_goes refl true)) refl refl refl
+
+geps_law : Lawful geps
+unfolding gep_forms
+geps_law =
+    within_lawful _ _ _ _ (made_lawful gep_of _ (before_law class.Getelementptr _ refl refl (seq_lawful _ _ (flag_law class.Inbounds refl refl)
+    (seq_lawful _ _ (types_law 64) (seq_lawful _ _ (before_law class.Comma _ refl refl typed_operands_law) index_lists_law refl) refl) refl))) refl refl refl
+
+loads_law : Lawful loads
+unfolding load_forms
+loads_law =
+    within_lawful _ _ _ _ (made_lawful load_of _ (before_law class.Load _ refl refl
+    (seq_lawful _ _ (types_law 64) (seq_lawful _ _ (before_law class.Comma _ refl refl typed_operands_law) align_tail_law refl) refl))) refl refl refl
+
+stores_law : Lawful stores
+unfolding store_forms
+stores_law =
+    within_lawful _ _ _ _ (made_lawful store_of _ (before_law class.Store _ refl refl
+    (seq_lawful _ _ typed_operands_law (seq_lawful _ _ (before_law class.Comma _ refl refl typed_operands_law) align_tail_law refl) refl))) refl refl refl
+
+allocas_law : Lawful allocas
+unfolding alloca_forms
+allocas_law = within_lawful _ _ _ _ (made_lawful alloca_of _ (before_law class.Alloca _ refl refl (seq_lawful _ _ (types_law 64) alloca_tail_law refl))) refl refl refl
+
+pub memory_ops_law : Lawful memory_ops
+unfolding memory_op_forms
+memory_ops_law = within_lawful _ _ _ _ (either_lawful _ _ geps_law (either_lawful _ _ loads_law stores_law refl refl) refl refl) refl refl refl
+
+pub plain_ops_law : Lawful plain_ops
+unfolding plain_op_forms
+plain_ops_law =
+    within_lawful _ _ _ _
+    (either_lawful _ _ (made_lawful kept _ (ending_lawful _ _ value_ops_law attachments_law refl))
+    (either_lawful _ _ (made_lawful kept _ memory_ops_law) (ending_lawful _ _ calls_law attachments_law refl) refl refl) refl refl)
+    refl refl refl
+
+pub entry_ops_law : Lawful entry_ops
+unfolding entry_op_forms
+entry_ops_law = within_lawful _ _ _ _ (either_lawful _ _ (made_lawful kept _ allocas_law) plain_ops_law refl refl) refl refl refl

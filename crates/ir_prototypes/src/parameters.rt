@@ -1,0 +1,180 @@
+//! Parameters of functions (LangRef, "Functions" and "Parameter Attributes").
+ghost use Rattle.std.specs.Prelude.{◌≡◌, Some, None};
+ghost use Rattle.ir_syntax.specs.Types.{TextTree};
+ghost use Rattle.ir_words.specs.declared.class.Class.TheVariants.{Metadata};
+ghost use Rattle.ir_rules.specs.Leaves.{means};
+ghost use Rattle.ir_rules.specs.Reading.{Gives};
+ghost use Rattle.ir_rules.specs.Rules.{commas, commas_some, either, has, made};
+ghost use Rattle.ir_types.specs.Types.{types};
+ghost use Rattle.ir_prototypes.specs.Prototypes.{bracketed, metadata_params, param_names, param_of, params, params_in};
+
+use ir_attributes::read_attributes;
+use ir_rules::{End, word};
+use ir_syntax::{Name, Param, Params, TyText};
+use ir_types::{read_local_name, read_type};
+use ir_words::{Class, Rest};
+use std::alloc::Global;
+
+/// An alignment, and a name with its line.
+type ParamName = (Option<u64>, Option<(u32, Name)>);
+
+/// Reads attributes and a name, where one stands.
+#[tactic(auto, unfolding(crate::specs::Prototypes::param_name_forms))]
+fn read_param_name<'t>(alloc: Global, rest: Rest<'t>) -> Result<(ParamName, Rest<'t>), End>
+    ensures { Gives (λ x. x) result (param_names.read rest.entry) }
+{
+    let (align, rest) = read_attributes(alloc, rest)?;
+    match rest.first() {
+        Class::Local => {
+            let line = rest.line();
+            let (name, rest) = read_local_name(alloc, rest)?;
+            Ok(((align, Some((line, name))), rest))
+        }
+        _ => Ok(((align, None), rest)),
+    }
+}
+
+/// The parameter on a line, with the name that is written, on its own line, or none.
+fn param_of(line: u32, ty: Option<TyText>, name: Option<(u32, Name)>) -> Param
+    ensures { result ≡ param_of (line, (ty, (None, name))) }
+{
+    match name {
+        Some((name_line, name)) => Param {
+            line,
+            ty,
+            name,
+            name_line,
+        },
+        None => Param {
+            line,
+            ty,
+            name: Name::Implicit,
+            name_line: line,
+        },
+    }
+}
+
+/// Reads a parameter of a type.
+#[tactic(auto, unfolding(crate::specs::Prototypes::param_forms))]
+fn read_typed_param<'t>(alloc: Global, rest: Rest<'t>) -> Result<(Param, Rest<'t>), End>
+    ensures { Gives (λ x. x) result (params.read rest.entry) }
+{
+    let line = rest.line();
+    let (ty, rest) = read_type(alloc, rest, 64)?;
+    let ((_, name), rest) = read_param_name(alloc, rest)?;
+    Ok((param_of(line, Some(ty), name), rest))
+}
+
+/// Reads a type, or `metadata`.
+fn read_param_type<'t>(alloc: Global, rest: Rest<'t>) -> Result<(Option<TyText>, Rest<'t>), End>
+    ensures { Gives (λ x. x) result ((either (means Metadata None) (made (λ (t : TextTree). Some t) (types 64))).read rest.entry) }
+{
+    match rest.first() {
+        Class::Metadata => Ok((None, rest.skip())),
+        _ => {
+            let (ty, rest) = read_type(alloc, rest, 64)?;
+            Ok((Some(ty), rest))
+        }
+    }
+}
+
+/// Reads a parameter of a type, or of metadata.
+#[tactic(auto, unfolding(crate::specs::Prototypes::metadata_param_forms))]
+fn read_metadata_param<'t>(alloc: Global, rest: Rest<'t>) -> Result<(Param, Rest<'t>), End>
+    ensures { Gives (λ x. x) result (metadata_params.read rest.entry) }
+{
+    let line = rest.line();
+    let (ty, rest) = read_param_type(alloc, rest)?;
+    let ((_, name), rest) = read_param_name(alloc, rest)?;
+    Ok((param_of(line, ty, name), rest))
+}
+
+/// Reads a parameter, which may be of metadata or not.
+fn read_param<'t>(alloc: Global, rest: Rest<'t>, metadata: bool) -> Result<(Param, Rest<'t>), End>
+    ensures { Gives (λ x. x) result ((params_in metadata).read rest.entry) }
+{
+    if metadata {
+        read_metadata_param(alloc, rest)
+    } else {
+        read_typed_param(alloc, rest)
+    }
+}
+
+/// Whether a token of a class begins a parameter of a type.
+fn begins_typed_param(class: Class) -> bool
+    ensures { result ≡ has params.starts class }
+{
+    matches!(
+        class,
+        Class::OpenSquare
+            | Class::OpenCurly
+            | Class::OpenPacked
+            | Class::IntType
+            | Class::Ptr
+            | Class::Local
+    )
+}
+
+/// Whether a token of a class begins a parameter of a type, or of metadata.
+fn begins_metadata_param(class: Class) -> bool
+    ensures { result ≡ has metadata_params.starts class }
+{
+    matches!(
+        class,
+        Class::Metadata
+            | Class::OpenSquare
+            | Class::OpenCurly
+            | Class::OpenPacked
+            | Class::IntType
+            | Class::Ptr
+            | Class::Local
+    )
+}
+
+/// Whether a token of a class begins a parameter, which may be of metadata or not.
+fn begins_param(class: Class, metadata: bool) -> bool
+    ensures { result ≡ has (commas_some (params_in metadata)).starts class }
+{
+    if metadata {
+        begins_metadata_param(class)
+    } else {
+        begins_typed_param(class)
+    }
+}
+
+/// Reads parameters parted by commas, or none.
+fn read_param_list<'t>(
+    alloc: Global,
+    rest: Rest<'t>,
+    metadata: bool,
+) -> Result<(Vec<Param>, Rest<'t>), End>
+    ensures { Gives (λ x. (x.0.items, x.1)) result ((commas (params_in metadata)).read rest.entry) }
+{
+    let mut list = Vec::new(alloc);
+    if !begins_param(rest.first(), metadata) {
+        return Ok((list, rest));
+    }
+    let (first, after) = read_param(alloc, rest, metadata)?;
+    list.push(first)?;
+    let mut rest = after;
+    while rest.first() == Class::Comma {
+        let (param, after) = read_param(alloc, rest.skip(), metadata)?;
+        list.push(param)?;
+        rest = after;
+    }
+    Ok((list, rest))
+}
+
+/// Reads `(`, parameters, and `)`.
+pub(crate) fn read_params<'t>(
+    alloc: Global,
+    rest: Rest<'t>,
+    metadata: bool,
+) -> Result<(Params, Rest<'t>), End>
+    ensures { Gives (λ x. x) result ((bracketed (params_in metadata)).read rest.entry) }
+{
+    let rest = word(rest, Class::OpenRound)?;
+    let (list, rest) = read_param_list(alloc, rest, metadata)?;
+    let rest = word(rest, Class::CloseRound)?;
+    Ok((Params::from_vec(list), rest))
+}

@@ -1,0 +1,4 @@
+pub mod Capping
+pub mod IntegerWidths
+pub mod TypeLaws
+pub mod Unescaping
