@@ -20,8 +20,6 @@ mod object;
 mod refusal;
 mod register;
 mod symbol;
-#[cfg(test)]
-mod tests;
 
 pub use assembler::{assemble, ordered_lines_are_assembled};
 pub use object::{Needs, Object, ObjectSymbol, Section, Symbols, Words};

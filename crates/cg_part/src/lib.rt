@@ -6,8 +6,6 @@ mod code;
 mod print;
 mod program;
 mod symbol;
-#[cfg(test)]
-mod tests;
 mod text;
 
 pub use built::unbuilt;

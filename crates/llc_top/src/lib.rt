@@ -9,8 +9,6 @@ mod serve;
 mod start;
 mod status;
 mod tell;
-#[cfg(test)]
-mod tests;
 
 pub use run::run_llc;
 pub use status::Status;

@@ -3,8 +3,6 @@
 
 mod number;
 mod syntax;
-#[cfg(test)]
-mod tests;
 mod types;
 mod words;
 

@@ -15,6 +15,3 @@ pub use image::{Addresses, Bytes, Image, ObjectAddresses, SymbolAddress};
 pub use laws::{needs_have_addresses, parts_make_the_address};
 pub use linking::link;
 pub use refusal::LinkRefusal;
-
-#[cfg(test)]
-mod tests;

@@ -9,8 +9,6 @@ mod laws;
 mod machine;
 mod memory;
 mod stop;
-#[cfg(test)]
-mod tests;
 
 pub use laws::{registers_stay_whole, runs_join, stopped_machine_stays};
 pub use machine::Machine;

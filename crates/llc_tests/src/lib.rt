@@ -1,0 +1,10 @@
+//! Tests of the whole program over memory, and of what is not built. They stand apart from the crates
+//! that they call, since a crate with tests is proved twice.
+#![tactic(auto)]
+
+#[cfg(test)]
+mod building;
+#[cfg(test)]
+mod program;
+#[cfg(test)]
+mod words;
