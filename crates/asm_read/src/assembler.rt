@@ -71,7 +71,7 @@ pub fn assemble(alloc: Global, text: &[u8]) -> Result<Object, AsmRefusal>
     }
 }
 
-/// A text is an assembly, which [`assemble`] reads back, where its first line begins the section,
+/// A text is an assembly, which [`assemble`] takes, where its first line begins the section,
 /// it defines no name twice, and it defines each name that it marks as global.
 pub fn ordered_lines_are_assembled()
     ensures { (forms : List Form) → AreOrdered forms

@@ -9,11 +9,12 @@ use Rattle.ir_syntax.specs.declared.module.Module.{Module}
 use Rattle.rv_isa.specs.Format.{low_bits}
 use Rattle.rv_mach.specs.Run.{Shown}
 use Rattle.cg_part.specs.Allowed.{Allowed, RunsAllowed, Shows}
-use Rattle.cg_part.specs.Built.{IsBuiltFunction}
+use Rattle.cg_built.specs.Built.{IsBuiltFunction}
 use Rattle.cg_part.specs.Code.{addi, move, value_code}
-use Rattle.cg_part.specs.Definitions.{defined_functions}
+use Rattle.cg_built.specs.Definitions.{defined_functions}
 use Rattle.cg_part.specs.Meaning.{IsMain, IsRun, Returns, wrapped, going, ended, opening}
-use Rattle.cg_part.specs.Program.{IsProgram, part_object, program_bytes, program_count}
+use Rattle.cg_built.specs.Built.{IsProgram}
+use Rattle.cg_part.specs.Program.{part_object, program_bytes, program_count}
 use Rattle.cg_part.specs.Text.{part_text}
 use Rattle.rv_isa.specs.Text.{is_zero}
 use Rattle.cg_part.proofs.AssemblingLemmas.{part_assembles}

@@ -9,11 +9,13 @@ use Rattle.asm_read.specs.declared.form.Form.TheVariants.{Text, Global, Align, D
 use Rattle.ir_syntax.specs.declared.function.Function.{Function}
 use Rattle.rv_isa.specs.Symbol.{is_symbol_byte}
 use Rattle.rv_isa.specs.declared.inst.Inst.{Inst}
-use Rattle.cg_part.specs.Built.{IsBuiltFunction, is_built_name}
+use Rattle.cg_built.specs.Built.{IsBuiltFunction, is_built_name}
 use Rattle.cg_part.specs.Code.{function_code}
-use Rattle.cg_part.specs.Program.{code_forms, function_forms, function_name, head_forms, part_forms}
+use Rattle.cg_built.specs.Built.{function_name}
+use Rattle.cg_part.specs.Program.{code_forms, function_forms, head_forms, part_forms}
 use Rattle.cg_part.proofs.InstructionLemmas.{IsOfUsed, code_holds}
-use Rattle.cg_part.proofs.NameLemmas.{bare_bytes, name_is_bare, no_label_read, name_not_reserved}
+use Rattle.cg_built.proofs.BareNames.{bare_bytes, name_is_bare, name_not_reserved}
+use Rattle.cg_part.proofs.NameLemmas.{no_label_read}
 
 used_read : IsOfUsed IsRead
 used_read = record {

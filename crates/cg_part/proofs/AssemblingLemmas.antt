@@ -10,9 +10,10 @@ use Rattle.asm_read.proofs.AssemblyLemmas.{assembly_once, never_refused}
 use Rattle.ir_syntax.specs.declared.module.Module.{Module}
 use Rattle.rv_isa.specs.declared.inst.Line.{Line}
 use Rattle.cg_part.specs.Allowed.{Assembles}
-use Rattle.cg_part.specs.Built.{IsBuiltFunction}
-use Rattle.cg_part.specs.Definitions.{defined_functions}
-use Rattle.cg_part.specs.Program.{IsProgram, part_forms, part_object}
+use Rattle.cg_built.specs.Built.{IsBuiltFunction}
+use Rattle.cg_built.specs.Definitions.{defined_functions}
+use Rattle.cg_built.specs.Built.{IsProgram}
+use Rattle.cg_part.specs.Program.{part_forms, part_object}
 use Rattle.cg_part.specs.Text.{part_text}
 use Rattle.cg_part.proofs.AssemblingForms.{part_allowed}
 use Rattle.cg_part.proofs.AssemblingNames.{part_passed}

@@ -6,7 +6,7 @@ use Rattle.std.proofs.lemmas.Bool.{cases_lt}
 use Rattle.std.proofs.lemmas.Bool.Decides.{nat_tests}
 use Rattle.std.proofs.lemmas.List.Elements.{All-append, All-nil, All-cons}
 use Rattle.ir_syntax.specs.Literals.{literal_value}
-use Rattle.ir_syntax.specs.Names.{same_name}
+use Rattle.ir_ident.specs.Names.{same_name}
 use Rattle.ir_syntax.specs.declared.block.Block.{Block}
 use Rattle.ir_syntax.specs.declared.operand.Operand.{Operand}
 use Rattle.ir_syntax.specs.declared.operand.Operand.TheVariants.{Local, Int}
@@ -17,7 +17,7 @@ use Rattle.ir_syntax.specs.declared.function.Param.{Param}
 use Rattle.rv_isa.specs.Encoding.{IsInst, IsSigned12}
 use Rattle.rv_isa.specs.Text.{is_zero}
 use Rattle.rv_isa.specs.declared.inst.Inst.{Inst}
-use Rattle.cg_part.specs.Built.{IsBuiltFunction, IsBuiltBody, IsBuiltOperand, IsBuiltTerm}
+use Rattle.cg_built.specs.Built.{IsBuiltFunction, IsBuiltBody, IsBuiltOperand, IsBuiltTerm}
 use Rattle.cg_part.specs.Code.{addi, move, return, copies, argument_code, constant_code, code_at, operand_code, term_code, body_code, function_code}
 use Rattle.cg_part.specs.Program.{part_code}
 

@@ -5,9 +5,7 @@ pub mod AssemblingNames
 pub mod AssemblingObject
 pub mod AssemblingPassed
 pub mod AssemblingText
-pub mod BuiltLemmas
 pub mod CodeLemmas
-pub mod DistinctNames
 pub mod InstructionLemmas
 pub mod LinkingLists
 pub mod LinkingMain
@@ -16,7 +14,6 @@ pub mod LinkingProgram
 pub mod LinkingSizes
 pub mod LinkingWords
 pub mod NameLemmas
-pub mod NoLines
 pub mod PlaceLemmas
 pub mod QuietLines
 pub mod ResolvingLemmas
@@ -29,4 +26,3 @@ pub mod RunningWords
 pub mod Splitting
 pub mod Tables
 pub mod TextLemmas
-pub mod UnbuiltLemmas

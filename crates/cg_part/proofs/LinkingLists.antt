@@ -6,7 +6,7 @@ use Rattle.std.proofs.lemmas.List.Elements.{Contains-append_right, filter-append
 use Rattle.ir_syntax.specs.declared.function.Function.{Function}
 use Rattle.ir_syntax.specs.declared.module.Module.{Module}
 use Rattle.cg_part.specs.Code.{function_code}
-use Rattle.cg_part.specs.Definitions.{defined_functions, has_body}
+use Rattle.cg_built.specs.Definitions.{defined_functions, has_body}
 use Rattle.cg_part.specs.Meaning.{IsMain}
 use Rattle.cg_part.specs.Program.{part_code}
 

@@ -10,7 +10,7 @@ use Rattle.ir_syntax.specs.declared.term.Term.TheVariants.{Ret}
 use Rattle.ir_syntax.specs.declared.function.Function.{Function}
 use Rattle.ir_syntax.specs.declared.module.Module.{Module}
 use Rattle.rv_isa.specs.Encoding.{IsSigned12}
-use Rattle.cg_part.specs.Built.{IsBuiltFunction, IsBuiltBlock, IsBuiltBody, IsBuiltTerm, IsTypedBody, GivesType}
+use Rattle.cg_built.specs.Built.{IsBuiltFunction, IsBuiltBlock, IsBuiltBody, IsBuiltTerm, IsTypedBody, GivesType}
 use Rattle.cg_part.specs.Code.{return, value_code, term_code, body_code, function_code}
 use Rattle.cg_part.specs.Meaning.{IsMain, Returns, term_value, value_at, wrapped}
 

@@ -11,13 +11,15 @@ use Rattle.ir_syntax.specs.declared.module.Module.{Module}
 use Rattle.obj_link.specs.Cause.{IsResolved}
 use Rattle.obj_link.specs.Names.{is_global, defines_global, duplicates}
 use Rattle.obj_link.specs.Runtime.{runtime}
-use Rattle.cg_part.specs.Built.{IsBuiltFunction}
+use Rattle.cg_built.specs.Built.{IsBuiltFunction}
 use Rattle.cg_part.specs.Code.{function_code}
-use Rattle.cg_part.specs.Definitions.{defined_functions}
+use Rattle.cg_built.specs.Definitions.{defined_functions}
 use Rattle.cg_part.specs.Meaning.{IsMain}
-use Rattle.cg_part.specs.Program.{IsProgram, function_name, part_object, part_symbols, program_objects}
+use Rattle.cg_built.specs.Built.{IsProgram, function_name}
+use Rattle.cg_part.specs.Program.{part_object, part_symbols, program_objects}
 use Rattle.cg_part.proofs.LinkingLists.{around, main_defined}
-use Rattle.cg_part.proofs.NameLemmas.{free_differs, name_not_reserved}
+use Rattle.cg_built.proofs.BareNames.{name_not_reserved}
+use Rattle.cg_part.proofs.NameLemmas.{free_differs}
 
 differ : (a b : List ℕ) → (b ≡ a → ⊥) → bytes_eq a b ≡ false
 differ a b other = by_test (bytes_eq a b) refl

@@ -8,7 +8,8 @@ use Rattle.rv_isa.specs.Format.{low_bits}
 use Rattle.rv_isa.specs.declared.inst.Inst.{Inst}
 use Rattle.cg_part.specs.Code.{return, value_code}
 use Rattle.cg_part.specs.Meaning.{IsMain}
-use Rattle.cg_part.specs.Program.{IsProgram, program_objects, program_bytes, runtime_code}
+use Rattle.cg_built.specs.Built.{IsProgram}
+use Rattle.cg_part.specs.Program.{program_objects, program_bytes, runtime_code}
 use Rattle.cg_part.proofs.LinkingMain.{ReturnsConstant}
 use Rattle.cg_part.proofs.LinkingWords.{part_words}
 use Rattle.cg_part.proofs.RunningProgram.{program_words, program_runs}

@@ -4,7 +4,7 @@ use Rattle.std.specs.List.{AllByRecursion as ByRecursion}
 use Rattle.std.proofs.lemmas.List.{length-map}
 use Rattle.std.proofs.lemmas.List.Elements.{recursion_from_All}
 use Rattle.ir_syntax.specs.Literals.{literal_value}
-use Rattle.ir_syntax.specs.Names.{same_name}
+use Rattle.ir_ident.specs.Names.{same_name}
 use Rattle.ir_syntax.specs.declared.block.Block.{Block}
 use Rattle.ir_syntax.specs.declared.operand.Operand.{Operand}
 use Rattle.ir_syntax.specs.declared.operand.Operand.TheVariants.{Local, Int}
@@ -18,11 +18,12 @@ use Rattle.obj_link.proofs.Sizes.{image_size-instructions}
 use Rattle.rv_isa.specs.Text.{is_zero}
 use Rattle.rv_isa.specs.declared.inst.Inst.{Inst}
 use Rattle.rv_isa.specs.declared.inst.Line.TheVariants.{Plain}
-use Rattle.cg_part.specs.Built.{IsBuiltFunction, IsBuiltBody, IsBuiltOperand, IsBuiltTerm}
+use Rattle.cg_built.specs.Built.{IsBuiltFunction, IsBuiltBody, IsBuiltOperand, IsBuiltTerm}
 use Rattle.cg_part.specs.Code.{addi, move, return, copies, argument_code, constant_code, code_at, operand_code, term_code, body_code, function_code, value_code}
-use Rattle.cg_part.specs.Definitions.{defined_functions}
+use Rattle.cg_built.specs.Definitions.{defined_functions}
 use Rattle.cg_part.specs.Meaning.{IsMain}
-use Rattle.cg_part.specs.Program.{IsProgram, part_code, program_objects, program_count}
+use Rattle.cg_built.specs.Built.{IsProgram}
+use Rattle.cg_part.specs.Program.{part_code, program_objects, program_count}
 use Rattle.cg_part.proofs.InstructionLemmas.{position_inside}
 use Rattle.cg_part.proofs.LinkingLists.{around, code_around, main_defined}
 

@@ -14,9 +14,10 @@ use Rattle.rv_isa.specs.Encoding.{encoded}
 use Rattle.rv_isa.specs.declared.inst.Inst.{Inst}
 use Rattle.rv_isa.specs.declared.inst.Line.TheVariants.{Plain}
 use Rattle.cg_part.specs.Code.{function_code}
-use Rattle.cg_part.specs.Definitions.{defined_functions}
+use Rattle.cg_built.specs.Definitions.{defined_functions}
 use Rattle.cg_part.specs.Meaning.{IsMain}
-use Rattle.cg_part.specs.Program.{IsProgram, function_name, part_code, part_object, part_symbols, program_objects, runtime_code}
+use Rattle.cg_built.specs.Built.{IsProgram, function_name}
+use Rattle.cg_part.specs.Program.{part_code, part_object, part_symbols, program_objects, runtime_code}
 use Rattle.cg_part.proofs.LinkingLists.{around, at_middle, code_around, main_defined}
 use Rattle.cg_part.proofs.LinkingNames.{same}
 use Rattle.cg_part.proofs.LinkingSizes.{part_fits}

@@ -7,11 +7,11 @@ use Rattle.std.proofs.lemmas.Bool.Decides.{nat_tests}
 use Rattle.std.proofs.lemmas.List.{length-map, get_or-map}
 use Rattle.std.proofs.lemmas.List.Sums.{fails_before_first}
 use Rattle.std.proofs.lemmas.Slice.Eq.{bytes_eq-Decides}
-use Rattle.ir_syntax.specs.Names.{same_name}
+use Rattle.ir_ident.specs.Names.{same_name}
 use Rattle.ir_syntax.specs.declared.function.Param.{Param}
-use Rattle.ir_syntax.specs.declared.name.Name.{Name}
-use Rattle.ir_syntax.specs.declared.name.Name.TheVariants.{Named}
-use Rattle.cg_part.specs.Code.{place_of}
+use Rattle.ir_ident.specs.declared.name.Name.{Name}
+use Rattle.ir_ident.specs.declared.name.Name.TheVariants.{Named}
+use Rattle.cg_built.specs.Params.{place_of}
 
 found_below : (place count : ℕ) → place < count → IsSome (cond (nat_lt place count) (Some place) None)
 found_below place count inside = grind (arith, nat_tests, cases_lt place count)

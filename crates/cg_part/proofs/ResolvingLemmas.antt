@@ -10,7 +10,7 @@ use Rattle.std.proofs.lemmas.List.Elements.{recursion_from_All}
 use Rattle.std.proofs.lemmas.List.Folds.{list_all-append}
 use Rattle.std.proofs.lemmas.Map.Views.{list_any-from_Contains}
 use Rattle.std.proofs.lemmas.Grind.{flat_map-append}
-use Rattle.ir_syntax.specs.Names.{name_bytes}
+use Rattle.ir_ident.specs.Names.{name_bytes}
 use Rattle.ir_syntax.specs.declared.function.Function.{Function}
 use Rattle.ir_syntax.specs.declared.module.Module.{Module}
 use Rattle.rv_isa.specs.Encoding.{IsInst}
@@ -18,13 +18,14 @@ use Rattle.rv_isa.specs.Lines.{text_of_lines}
 use Rattle.rv_isa.specs.Symbol.{is_bare, is_digit, is_symbol_byte}
 use Rattle.rv_isa.specs.Text.{instruction_line}
 use Rattle.rv_isa.specs.declared.inst.Inst.{Inst}
-use Rattle.cg_part.specs.Built.{IsBuilt, IsBuiltFunction, is_built_name}
+use Rattle.cg_built.specs.Built.{IsBuilt, IsBuiltFunction, is_built_name}
 use Rattle.cg_part.specs.Code.{function_code}
-use Rattle.cg_part.specs.Definitions.{defined_functions}
+use Rattle.cg_built.specs.Definitions.{defined_functions}
 use Rattle.cg_part.specs.Resolving.{Resolves, defined_in, needed_in, after_percent, one_symbol, symbol_at, front_of, quoted_front, is_label, symbols_of, needs_of, defined_symbols}
 use Rattle.cg_part.specs.Text.{function_lines, head_lines, part_lines, part_text, symbol_of}
 use Rattle.cg_part.proofs.InstructionLemmas.{code_formed}
-use Rattle.cg_part.proofs.NameLemmas.{bare_bytes, bare_first, name_is_bare, no_label_in_line, name_not_reserved, name_spelled}
+use Rattle.cg_built.proofs.BareNames.{bare_bytes, bare_first, name_is_bare, name_not_reserved, name_spelled}
+use Rattle.cg_part.proofs.NameLemmas.{no_label_in_line}
 use Rattle.cg_part.proofs.QuietLines.{IsQuiet, instruction_quiet}
 use Rattle.cg_part.proofs.Splitting.{stays, is_one_line, pieces-text}
 

@@ -8,7 +8,7 @@ use Rattle.rv_isa.specs.Lines.{ended, text_of_lines}
 use Rattle.rv_isa.specs.Text.{instruction_line}
 use Rattle.rv_isa.specs.declared.inst.Inst.{Inst}
 use Rattle.cg_part.specs.Code.{function_code}
-use Rattle.cg_part.specs.Definitions.{has_body}
+use Rattle.cg_built.specs.Definitions.{has_body}
 use Rattle.cg_part.specs.Text.{function_lines, head_lines, part_lines, symbol_of}
 
 -- the text of lines that come after others

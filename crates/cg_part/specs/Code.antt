@@ -1,8 +1,7 @@
 -- The code of a function that returns a constant or one of its arguments.
-use Rattle.std.specs.Prelude.{◌+◌, ◌-◌, ℕ, ℤ, pos, Option, Some, None, List, [], ◌∷◌, ◌++◌, map, position, length, if◌then◌else◌}
+use Rattle.std.specs.Prelude.{◌+◌, ◌-◌, ℕ, ℤ, pos, Option, Some, None, List, [], ◌∷◌, ◌++◌, map, length, if◌then◌else◌}
 use Rattle.std.specs.List.{range_with_len}
 use Rattle.ir_syntax.specs.Literals.{literal_value}
-use Rattle.ir_syntax.specs.Names.{same_name}
 use Rattle.ir_syntax.specs.declared.block.Block.{Block}
 use Rattle.ir_syntax.specs.declared.operand.Operand.{Operand}
 use Rattle.ir_syntax.specs.declared.operand.Operand.TheVariants.{Local, Int}
@@ -10,7 +9,7 @@ use Rattle.ir_syntax.specs.declared.term.Term.{Term}
 use Rattle.ir_syntax.specs.declared.term.Term.TheVariants.{Ret}
 use Rattle.ir_syntax.specs.declared.function.Function.{Function}
 use Rattle.ir_syntax.specs.declared.function.Param.{Param}
-use Rattle.ir_syntax.specs.declared.name.Name.{Name}
+use Rattle.cg_built.specs.Params.{place_of}
 use Rattle.rv_isa.specs.Text.{is_zero}
 use Rattle.rv_isa.specs.declared.inst.Inst.{Inst}
 use Rattle.rv_isa.specs.declared.inst.Op.TheVariants.{Addi, Jalr}
@@ -44,10 +43,6 @@ value_code value = if is_zero value then addi 10 0 (pos 0) ∷ [] else addi 5 0 
 -- a constant is returned
 abbrev pub constant_code : ℕ → ℤ → List Inst
 constant_code count value = copies 5 0 count ++ value_code value ++ return ∷ []
-
--- the place of a parameter among those of its function
-abbrev pub place_of : Name → List Param → Option ℕ
-place_of name params = position (λ p. same_name p.name name) params
 
 abbrev pub code_at : ℕ → Option ℕ → List Inst
 code_at count (Some place) = argument_code count place

@@ -1,9 +1,6 @@
 pub mod Allowed
-pub mod Built
 pub mod Code
-pub mod Definitions
 pub mod Meaning
 pub mod Program
 pub mod Resolving
 pub mod Text
-pub mod Unbuilt

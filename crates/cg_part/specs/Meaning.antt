@@ -2,7 +2,7 @@
 -- (LangRef, "Functions", "'ret' Instruction" and "Simple Constants").
 use Rattle.std.specs.Prelude.{◌≡◌, ◌+◌, ◌-◌, ◌%◌, ◌^◌, ℕ, ℤ, pos, negsuc, zero, suc, Option, Some, None, is_some, true, List, [], ◌∷◌, codes, if◌then◌else◌, Contains}
 use Rattle.ir_syntax.specs.Literals.{literal_value}
-use Rattle.ir_syntax.specs.Names.{name_bytes, same_name}
+use Rattle.ir_ident.specs.Names.{name_bytes, same_name}
 use Rattle.ir_syntax.specs.Types.{TextTree, int}
 use Rattle.ir_syntax.specs.declared.block.Block.{Block}
 use Rattle.ir_syntax.specs.declared.operand.Operand.{Operand}
@@ -12,7 +12,7 @@ use Rattle.ir_syntax.specs.declared.term.Term.TheVariants.{Ret}
 use Rattle.ir_syntax.specs.declared.function.Function.{Function}
 use Rattle.ir_syntax.specs.declared.function.Param.{Param}
 use Rattle.ir_syntax.specs.declared.module.Module.{Module}
-use Rattle.ir_syntax.specs.declared.name.Name.{Name}
+use Rattle.ir_ident.specs.declared.name.Name.{Name}
 
 -- a whole number as a value of this many bits
 abbrev pub wrapped : ℕ → ℤ → ℕ

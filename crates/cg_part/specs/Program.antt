@@ -1,14 +1,11 @@
 -- Modules that are accepted today, what the lines of such a module's text say, the object that it assembles
 -- to, and the program that is linked from it.
-use Rattle.std.specs.Prelude.{◌≤◌, ◌+◌, ◌*◌, ℕ, pos, true, List, [], ◌∷◌, ◌++◌, length, map, flat_map}
-use Rattle.std.specs.List.{IsDistinct}
-use Rattle.std.specs.Str.{bytes_eq}
+use Rattle.std.specs.Prelude.{◌+◌, ◌*◌, ℕ, pos, true, List, [], ◌∷◌, ◌++◌, length, map, flat_map}
 use Rattle.asm_read.specs.declared.form.Form.{Form}
 use Rattle.asm_read.specs.declared.form.Form.TheVariants as form
 use Rattle.asm_read.specs.declared.object.Object.{Object}
 use Rattle.asm_read.specs.declared.object.ObjectSymbol.{ObjectSymbol}
 use Rattle.asm_read.specs.declared.object.Section.TheVariants.{Text}
-use Rattle.ir_syntax.specs.Names.{name_bytes}
 use Rattle.ir_syntax.specs.declared.function.Function.{Function}
 use Rattle.ir_syntax.specs.declared.module.Module.{Module}
 use Rattle.obj_link.specs.Layout.{instruction_count}
@@ -17,18 +14,9 @@ use Rattle.obj_link.specs.Words.{high_part, low_part, image_bytes}
 use Rattle.rv_isa.specs.declared.inst.Inst.{Inst}
 use Rattle.rv_isa.specs.declared.inst.Line.TheVariants.{Plain}
 use Rattle.rv_isa.specs.declared.inst.Op.TheVariants.{Lui, Jalr, Ecall}
-use Rattle.cg_part.specs.Built.{IsBuilt}
+use Rattle.cg_built.specs.Built.{function_name}
 use Rattle.cg_part.specs.Code.{addi, return, function_code}
-use Rattle.cg_part.specs.Definitions.{defined_functions}
-
-abbrev pub function_name : Function → List ℕ
-function_name f = name_bytes f.name
-
--- a module of the built set that defines at most 4,096 functions, whose names differ
-pub record IsProgram (m : Module) : Type 0 where
-  pub built : IsBuilt m
-  pub differ : IsDistinct bytes_eq (map function_name (defined_functions m))
-  pub few : length (defined_functions m) ≤ 4096
+use Rattle.cg_built.specs.Definitions.{defined_functions}
 
 -- what the lines before a function's code say
 abbrev pub head_forms : List ℕ → List Form

@@ -6,7 +6,7 @@ use Rattle.ir_syntax.specs.declared.module.Module.{Module}
 use Rattle.rv_isa.specs.Lines.{pieces_of}
 use Rattle.rv_isa.specs.Symbol.{is_digit, is_symbol_byte}
 use Rattle.asm_read.specs.Forms.{is_number}
-use Rattle.cg_part.specs.Definitions.{declared_functions, defined_functions}
+use Rattle.cg_built.specs.Definitions.{declared_functions, defined_functions}
 use Rattle.cg_part.specs.Text.{symbol_of}
 
 -- the front of bytes that pass a test

@@ -1,13 +1,13 @@
 -- The text of the one part.
 use Rattle.std.specs.Prelude.{ℕ, List, [], ◌∷◌, ◌++◌, map, codes, flat_map}
-use Rattle.ir_syntax.specs.Names.{name_bytes}
+use Rattle.ir_ident.specs.Names.{name_bytes}
 use Rattle.ir_syntax.specs.declared.function.Function.{Function}
 use Rattle.ir_syntax.specs.declared.module.Module.{Module}
 use Rattle.rv_isa.specs.Lines.{ended, text_of_lines}
 use Rattle.rv_isa.specs.Symbol.{spelled}
 use Rattle.rv_isa.specs.Text.{spelled_line, instruction_line}
 use Rattle.cg_part.specs.Code.{function_code}
-use Rattle.cg_part.specs.Definitions.{defined_functions}
+use Rattle.cg_built.specs.Definitions.{defined_functions}
 
 -- a function's symbol as the assembly writes it
 abbrev pub symbol_of : Function → List ℕ

@@ -3,10 +3,13 @@ ghost use Rattle.std.specs.Prelude.{◌≡◌, ◌+◌, ◌-◌, ◌++◌, ◌�
 ghost use Rattle.ir_syntax.specs.Literals.{literal_value};
 ghost use Rattle.rv_isa.specs.Encoding.{IsInst, IsSigned12};
 ghost use Rattle.rv_isa.specs.Text.{is_zero};
-ghost use Rattle.cg_part.specs.Built.{IsBuiltFunction, IsBuiltBody, IsBuiltOperand, IsBuiltTerm};
-ghost use Rattle.cg_part.specs.Code.{addi, move, return, copies, argument_code, value_code, constant_code, code_at, place_of, operand_code, term_code, body_code, function_code};
+ghost use Rattle.cg_built.specs.Built.{IsBuiltFunction, IsBuiltBody, IsBuiltOperand, IsBuiltTerm};
+ghost use Rattle.cg_part.specs.Code.{addi, move, return, copies, argument_code, value_code, constant_code, code_at, operand_code, term_code, body_code, function_code};
+ghost use Rattle.cg_built.specs.Params.{place_of};
 
-use ir_syntax::{Block, Blocks, Function, Literal, Name, Operand, Param, Term};
+use cg_built::place_among;
+use ir_ident::Name;
+use ir_syntax::{Block, Blocks, Function, Literal, Operand, Param, Term};
 use rv_isa::{Inst, Op};
 use std::alloc::{AllocError, Global};
 
@@ -88,13 +91,6 @@ fn push_parameter(code: &mut Vec<Inst>, params: &[Param], name: &Name) -> Result
         Some(place) => push_argument(code, params.len() as u8, place as u8),
         None => Ok(()),
     }
-}
-
-/// The place of the parameter of a name.
-pub fn place_among(name: &Name, params: &[Param]) -> Option<usize>
-    ensures { result ≡ place_of name.now params.now }
-{
-    params.iter().position(|param| param.name.is_same(name))
 }
 
 fn immediate_of(literal: Literal) -> i64

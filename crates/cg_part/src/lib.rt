@@ -1,13 +1,10 @@
-//! The text of a part: what assembly a module's functions become, and what of a module is not built.
+//! The text of a part: what assembly a module's functions become, and the image that it links to.
 #![tactic(auto)]
 
-mod built;
 mod code;
 mod print;
 mod program;
-mod symbol;
 mod text;
 
-pub use built::unbuilt;
 pub use program::program_of;
 pub use text::text_of;

@@ -2,11 +2,12 @@
 ghost use Rattle.std.specs.Prelude.{◌≡◌, ◌≤◌, ◌∷◌, [], IfOk};
 ghost use Rattle.ir_syntax.specs.declared.function.Function.{Function};
 ghost use Rattle.obj_link.specs.Cause.{IsResolved};
-ghost use Rattle.obj_link.specs.Layout.{image_size, instruction_count};
+ghost use Rattle.obj_link.specs.Layout.{addresses, image_size, instruction_count};
 ghost use Rattle.obj_link.specs.Runtime.{runtime};
 ghost use Rattle.obj_link.specs.Words.{image_bytes};
 ghost use Rattle.cg_part.specs.Meaning.{IsMain};
-ghost use Rattle.cg_part.specs.Program.{IsProgram, part_object, program_bytes, program_count};
+ghost use Rattle.cg_built.specs.Built.{IsProgram};
+ghost use Rattle.cg_part.specs.Program.{part_object, program_bytes, program_count, program_objects};
 
 use crate::text::text_of;
 use asm_read::{AsmRefusal, Object, assemble};
@@ -21,6 +22,7 @@ pub fn program_of(alloc: Global, m: &Module) -> Result<Image, AllocError>
     requires main { (f : Function) × IsMain m.now f }
     ensures bytes { IfOk result (λ image. image.bytes ≡ program_bytes m.now) }
     ensures instructions { IfOk result (λ image. image.instructions ≡ program_count m.now) }
+    ensures addresses { IfOk result (λ image. image.addresses ≡ addresses (program_objects m.now)) }
 {
     let object = part_object_of(alloc, m)?;
     let image = linked(alloc, object)?;
@@ -46,6 +48,7 @@ fn linked(alloc: Global, object: Object) -> Result<Image, AllocError>
     requires small { image_size (runtime ∷ object ∷ []) ≤ 67108864 }
     ensures bytes { IfOk result (λ image. image.bytes ≡ image_bytes (runtime ∷ object ∷ [])) }
     ensures instructions { IfOk result (λ image. image.instructions ≡ instruction_count (runtime ∷ object ∷ [])) }
+    ensures addresses { IfOk result (λ image. image.addresses ≡ addresses (runtime ∷ object ∷ [])) }
 {
     match link(alloc, &[object]) {
         Ok(image) => Ok(image),

@@ -1,18 +1,18 @@
 //! The text of the part.
 ghost use Rattle.std.specs.Prelude.{◌≡◌, ◌++◌, ◌∷◌, [], OnOk, IfOk, All, map, IsTrue};
 ghost use Rattle.std.specs.List.{filter};
-ghost use Rattle.ir_syntax.specs.Names.{name_bytes};
+ghost use Rattle.ir_ident.specs.Names.{name_bytes};
 ghost use Rattle.rv_isa.specs.Encoding.{IsInst};
 ghost use Rattle.rv_isa.specs.Lines.{text_of_lines};
 ghost use Rattle.rv_isa.specs.Text.{instruction_line};
-ghost use Rattle.cg_part.specs.Built.{IsBuilt, IsBuiltFunction};
-ghost use Rattle.cg_part.specs.Definitions.{has_body};
+ghost use Rattle.cg_built.specs.Built.{IsBuilt, IsBuiltFunction};
+ghost use Rattle.cg_built.specs.Definitions.{has_body};
 ghost use Rattle.cg_part.specs.Resolving.{Resolves};
 ghost use Rattle.cg_part.specs.Text.{part_text, function_lines, head_lines, part_lines};
 
 use crate::code::code_of;
 use crate::print::{push_instruction, push_text};
-use crate::symbol::bytes_of;
+use cg_built::bytes_of;
 use ir_syntax::{Function, Module};
 use rv_isa::Inst;
 use std::alloc::{AllocError, Global};

@@ -1,10 +1,12 @@
-//! Tests of `ir_check`, on modules at each limit and just beyond it.
+//! Tests of `ir_check` and `ir_sizes`, on modules at each limit and just beyond it: texts, and what is told of them.
 #![tactic(auto)]
 
 #[cfg(test)]
 mod limits_tests;
 #[cfg(test)]
 mod mention_tests;
+#[cfg(test)]
+mod modules;
 #[cfg(test)]
 mod repeated_tests;
 #[cfg(test)]

@@ -1,171 +1,155 @@
 //! Definitions of types, and which of them have no size.
-use ir_check::unsized_lines;
-use ir_syntax::{Identifier, ItemNumber, Name, NameUse, TyText, TypeDef, TypeDefs, TypeTexts};
+use crate::modules::{Piece, push_pieces, read};
+use ir_sizes::unsized_lines;
+use ir_syntax::Module;
+use itoa::Buffer;
 use std::alloc::{AllocError, Global};
 use std::test::Fail;
 
-/// A field of a struct.
-#[derive(Clone, Copy)]
-enum Field {
-    /// An integer of so many bits.
-    Int(u8),
-    /// So many integers of so many bits.
-    Ints(u32, u8),
-    /// The type that the definition at a line defines.
-    Type(u32),
+/// Types, and the lines of those that have no size.
+const TYPES: [(&[Piece], &[u32]); 11] = [
+    (&[(1, "%a = type { i8, i8 }\n%b = type { i8, %a }")], &[]),
+    (&[(1, "%a = type { %b, i8 }\n%b = type { i8, i8 }")], &[]),
+    (&[(1, "%a = type { %a, i8 }\n%b = type { i8, i8 }")], &[1]),
+    (
+        &[(1, "%a = type { %b, i8 }\n%b = type { i8, %a }")],
+        &[1, 2],
+    ),
+    (&[(1, "%a = type { %c, i8 }\n%b = type { i8, i8 }")], &[1]),
+    (
+        &[(
+            1,
+            "%a = type { [4294967295 x i8], [0 x i8] }\n%b = type { %a, [0 x i8] }",
+        )],
+        &[],
+    ),
+    (
+        &[(
+            1,
+            "%a = type { [4294967295 x i8], i8 }\n%b = type { i8, i8 }",
+        )],
+        &[1],
+    ),
+    (
+        &[(
+            1,
+            "%a = type { [4294967295 x i16], i8 }\n%b = type { i8, i8 }",
+        )],
+        &[1],
+    ),
+    (
+        &[(
+            1,
+            "%a = type { %b, i8 }\n%b = type { [4294967295 x i16], i8 }",
+        )],
+        &[1, 2],
+    ),
+    // A type has at most 65,536 places.
+    (
+        &[
+            (1, "%a = type { i8"),
+            (32_765, ", i8"),
+            (1, ", [1 x i8] }\n%b = type { i8"),
+            (32_765, ", i8"),
+            (1, ", [1 x i8], i8 }"),
+        ],
+        &[2],
+    ),
+    // A name stands for its first definition.
+    (
+        &[(
+            1,
+            "%a = type <{ i8 }>\n%a = type <{ [4294967295 x i16] }>\n%b = type <{ %a }>",
+        )],
+        &[2],
+    ),
+];
+
+/// Whether these are the lines of a module's types that have no size.
+fn are_unsized(alloc: Global, module: &Module, lines: &[u32]) -> Result<bool, AllocError> {
+    Ok(unsized_lines(alloc, &module.types)?.as_slice() == lines)
 }
 
-/// The name of the type that the definition at a line defines.
-fn name_at(line: u32) -> Name {
-    Name::Unnamed(ItemNumber::from_u64(u64::from(line)))
-}
-
-fn named(alloc: Global, line: u32) -> Result<TyText, AllocError> {
-    let name = name_at(line);
-    TyText::named(alloc, NameUse { line: 1, name })
-}
-
-fn field_type(alloc: Global, field: Field) -> Result<TyText, AllocError> {
-    match field {
-        Field::Int(bits) => Ok(TyText::int(bits)),
-        Field::Ints(len, bits) => TyText::array(alloc, len, TyText::int(bits)),
-        Field::Type(line) => named(alloc, line),
+/// Whether a text is read, and these are the lines of its types that have no size.
+fn is_told(alloc: Global, text: &[u8], lines: &[u32]) -> Result<bool, AllocError> {
+    match read(alloc, text)? {
+        Some(module) => are_unsized(alloc, &module, lines),
+        None => Ok(false),
     }
 }
 
-fn structure(alloc: Global, fields: &[Field]) -> Result<TyText, AllocError> {
-    let mut types = Vec::new(alloc);
-    for field in fields {
-        types.push(field_type(alloc, *field)?)?;
-    }
-    TyText::structure(alloc, false, TypeTexts::from_vec(types))
-}
-
-/// The lines of types that have no size, where each line defines the type of its number.
-fn lines_of(alloc: Global, bodies: Vec<TyText>) -> Result<Vec<u32>, AllocError> {
-    let mut defs = Vec::new(alloc);
-    let mut line = 0u32;
-    for body in bodies {
-        line = line.saturating_add(1);
-        defs.push(TypeDef {
-            line,
-            name: name_at(line),
-            body,
-        })?;
-    }
-    unsized_lines(alloc, &TypeDefs::from_vec(defs))
-}
-
-/// Whether the first and the second of two structs have no size.
-fn which_of_two(
-    alloc: Global,
-    first: [Field; 2],
-    second: [Field; 2],
-) -> Result<(bool, bool), AllocError> {
-    let bodies = vec![in alloc; structure(alloc, &first)?, structure(alloc, &second)?]?;
-    let lines = lines_of(alloc, bodies)?;
-    Ok((lines.contains(&1), lines.contains(&2)))
-}
-
-/// So many structs, each but the first with so many fields of the one before it.
-fn tower(alloc: Global, structs: u32, fields: usize) -> Result<Vec<TyText>, AllocError> {
-    let mut bodies = Vec::new(alloc);
-    bodies.push(structure(alloc, &[Field::Int(1)])?)?;
-    for below in 1..structs {
-        let types = vec![in alloc; Field::Type(below); fields]?;
-        bodies.push(structure(alloc, types.as_slice())?)?;
-    }
-    Ok(bodies)
+/// Whether these are the lines of the types without a size in a text of these pieces.
+fn is_told_of(alloc: Global, pieces: &[Piece], lines: &[u32]) -> Result<bool, AllocError> {
+    let mut text = Vec::new(alloc);
+    push_pieces(&mut text, pieces)?;
+    is_told(alloc, text.as_slice(), lines)
 }
 
 #[test]
 fn types_have_a_size_where_they_end_and_are_small(rt: HostRuntime) -> Result<(), Fail> {
-    let byte = Field::Int(8);
-    let none = Field::Ints(0, 8);
-    let most = Field::Ints(u32::MAX, 8);
-    let too_big = Field::Ints(u32::MAX, 16);
-    let (first, second, third) = (Field::Type(1), Field::Type(2), Field::Type(3));
-    let table = [
-        ([byte, byte], [byte, first], (false, false)),
-        ([second, byte], [byte, byte], (false, false)),
-        ([first, byte], [byte, byte], (true, false)),
-        ([second, byte], [byte, first], (true, true)),
-        ([third, byte], [byte, byte], (true, false)),
-        ([most, none], [first, none], (false, false)),
-        ([most, byte], [byte, byte], (true, false)),
-        ([too_big, byte], [byte, byte], (true, false)),
-        ([second, byte], [too_big, byte], (true, true)),
-    ];
-    for (one, other, wanted) in table {
-        assert_eq!(rt; which_of_two(rt.alloc(), one, other)?, wanted);
+    for (text, lines) in TYPES {
+        let right = is_told_of(rt.alloc(), text, lines)?;
+        assert!(rt; right, "{text:?}");
     }
     Ok(())
 }
 
-#[test]
-fn structs_stand_inside_each_other_to_64_levels(rt: HostRuntime) -> Result<(), Fail> {
-    let alloc = rt.alloc();
-    let deepest = lines_of(alloc, tower(alloc, 64, 1)?)?;
-    assert_eq!(rt; deepest.len(), 0);
-    let deeper = lines_of(alloc, tower(alloc, 66, 1)?)?;
-    assert_eq!(rt; deeper.as_slice(), [65, 66].as_slice());
-    Ok(())
+/// How many structs, how many fields each has of the one before it, and the lines of those that have no size.
+const TOWERS: [(u32, usize, &[u32]); 3] = [
+    // Structs stand inside each other to 64 levels.
+    (64, 1, &[]),
+    (66, 1, &[65, 66]),
+    // Sixty structs, each twice as large as the one before, are measured.
+    (
+        60,
+        2,
+        &[
+            15, 16, 17, 18, 19, 20, 21, 22, 23, 24, 25, 26, 27, 28, 29, 30, 31, 32, 33, 34, 35, 36,
+            37, 38, 39, 40, 41, 42, 43, 44, 45, 46, 47, 48, 49, 50, 51, 52, 53, 54, 55, 56, 57, 58,
+            59, 60,
+        ],
+    ),
+];
+
+/// Adds the type of a number.
+fn push_number(text: &mut Vec<u8>, number: u32) -> Result<(), AllocError> {
+    text.extend_from_slice(b"%")?;
+    text.extend_from_slice(Buffer::new().format(number).as_bytes())
 }
 
-#[test]
-fn a_type_has_at_most_65536_places(rt: HostRuntime) -> Result<(), Fail> {
-    let alloc = rt.alloc();
-    let mut fields = vec![in alloc; Field::Int(8); 32_766]?;
-    fields.push(Field::Ints(1, 8))?;
-    let most = structure(alloc, fields.as_slice())?;
-    fields.push(Field::Int(8))?;
-    let more = structure(alloc, fields.as_slice())?;
-    let lines = lines_of(alloc, vec![in alloc; most, more]?)?;
-    assert_eq!(rt; lines.as_slice(), [2].as_slice());
-    Ok(())
+/// Adds the struct of a number, with so many fields of the one before it.
+fn push_struct(text: &mut Vec<u8>, number: u32, fields: usize) -> Result<(), AllocError> {
+    push_number(text, number)?;
+    text.extend_from_slice(b" = type { ")?;
+    push_number(text, number.saturating_sub(1))?;
+    for _field in 1..fields {
+        text.extend_from_slice(b", ")?;
+        push_number(text, number.saturating_sub(1))?;
+    }
+    text.extend_from_slice(b" }\n")
 }
 
-#[test]
-fn sixty_structs_of_two_of_the_one_before_are_measured(rt: HostRuntime) -> Result<(), Fail> {
-    let alloc = rt.alloc();
-    let lines = lines_of(alloc, tower(alloc, 60, 2)?)?;
-    assert_eq!(rt; lines.len(), 46);
-    assert_eq!(rt; lines.first().copied(), Some(15));
-    Ok(())
-}
-
-fn struct_of_name(
+/// Whether these are the lines of the types without a size in so many structs, each but the first with so many fields
+/// of the one before it.
+fn is_told_of_tower(
     alloc: Global,
-    line: u32,
-    name: u8,
-    field: TyText,
-) -> Result<TypeDef, AllocError> {
-    let types = TypeTexts::from_vec(vec![in alloc; field]?);
-    Ok(TypeDef {
-        line,
-        name: Name::Named(Identifier::from_slice(alloc, &[name])?),
-        body: TyText::structure(alloc, true, types)?,
-    })
+    structs: u32,
+    fields: usize,
+    lines: &[u32],
+) -> Result<bool, AllocError> {
+    let mut text = Vec::new(alloc);
+    text.extend_from_slice(b"%1 = type { i1 }\n")?;
+    for below in 1..structs {
+        push_struct(&mut text, below.saturating_add(1), fields)?;
+    }
+    is_told(alloc, text.as_slice(), lines)
 }
 
 #[test]
-fn a_name_stands_for_its_first_definition(rt: HostRuntime) -> Result<(), Fail> {
-    let alloc = rt.alloc();
-    let a = NameUse {
-        line: 3,
-        name: Name::Named(Identifier::from_slice(alloc, b"a")?),
-    };
-    let defs = vec![in alloc;
-        struct_of_name(alloc, 1, b'a', TyText::int(8))?,
-        struct_of_name(
-            alloc,
-            2,
-            b'a',
-            TyText::array(alloc, u32::MAX, TyText::int(16))?
-        )?,
-        struct_of_name(alloc, 3, b'b', TyText::named(alloc, a)?)?,
-    ]?;
-    let lines = unsized_lines(alloc, &TypeDefs::from_vec(defs))?;
-    assert_eq!(rt; lines.as_slice(), [2].as_slice());
+fn structs_stand_inside_each_other(rt: HostRuntime) -> Result<(), Fail> {
+    for (structs, fields, lines) in TOWERS {
+        let right = is_told_of_tower(rt.alloc(), structs, fields, lines)?;
+        assert!(rt; right, "{structs} structs of {fields} fields");
+    }
     Ok(())
 }

@@ -1,8 +1,7 @@
 -- Attributes, of which an alignment alone is kept (LangRef, "Parameter Attributes", "Function
 -- Attributes" and "Attribute Groups").
-use Rattle.std.specs.Prelude.{ℕ, ◌^◌, ◌||◌, nat_lt, Option, Some, None, List, [], ◌∷◌, Bool, false, true, fold, if◌then◌else◌}
+use Rattle.std.specs.Prelude.{ℕ, ◌^◌, ◌||◌, nat_lt, Option, Some, None, List, [], ◌∷◌, false, true, fold, if◌then◌else◌}
 use Rattle.ir_syntax.specs.declared.literal.Literal.{Literal}
-use Rattle.ir_words.specs.declared.class.Class.{Class}
 use Rattle.ir_words.specs.declared.class.Class.TheVariants.{Align, Attribute, Attr, Comma, Equal, Meta, OpenRound, Str}
 use Rattle.ir_rules.specs.Balance.{enclosed}
 use Rattle.ir_rules.specs.Leaves.{means}

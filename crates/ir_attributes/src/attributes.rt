@@ -1,14 +1,14 @@
 //! Attributes and attached metadata (LangRef, "Parameter Attributes" and "Metadata").
 ghost use Rattle.std.specs.Prelude.{◌≡◌, [], ◌∷◌, None};
 ghost use Rattle.ir_attributes.specs.Attributes.{alignment_of, alignments, an_attribute, attachment, attachments, attributes, later, no_alignment, round_brackets};
-ghost use Rattle.ir_rules.specs.Reading.{Gives};
+ghost use Rattle.ir_rules.specs.Reading.{Gives, GivesExactly};
 ghost use Rattle.ir_rules.specs.Rules.{has, made, option, word, ◌▷◌};
 ghost use Rattle.ir_words.specs.declared.class.Class.TheVariants.{Align, Attr, Attribute, Equal, Str};
 
 use ir_rules::{Bracket, End, skip_enclosed, word};
 use ir_syntax::Literal;
 use ir_types::read_literal;
-use ir_words::{Class, Rest};
+use ir_words::{Class, Cursor};
 use std::alloc::Global;
 
 /// An alignment as an item keeps it: one below 0 or above 2^63 is kept as 0, which none may be.
@@ -27,8 +27,8 @@ fn alignment_of(literal: Literal) -> u64
 /// # Errors
 ///
 /// `Bad` at the first token that can't stand there.
-pub fn read_alignment<'t>(rest: Rest<'t>) -> Result<(u64, Rest<'t>), End>
-    ensures { Gives (λ x. x) result (alignments.read rest.entry) }
+pub fn read_alignment<'t>(rest: Cursor<'t>) -> Result<(u64, Cursor<'t>), End>
+    ensures { GivesExactly (λ x. x) result (alignments.read rest.entry) }
 {
     let rest = word(rest, Class::Align)?;
     let (literal, rest) = read_literal(rest)?;
@@ -40,8 +40,8 @@ pub fn read_alignment<'t>(rest: Rest<'t>) -> Result<(u64, Rest<'t>), End>
 /// # Errors
 ///
 /// `Bad` at the first token that can't stand there.
-pub fn read_attachment<'t>(rest: Rest<'t>) -> Result<Rest<'t>, End>
-    ensures { Gives (λ rest. (tt, rest)) result (attachment.read rest.entry) }
+pub fn read_attachment<'t>(rest: Cursor<'t>) -> Result<Cursor<'t>, End>
+    ensures { GivesExactly (λ rest. (tt, rest)) result (attachment.read rest.entry) }
 {
     let rest = word(rest, Class::Meta)?;
     word(rest, Class::Meta)
@@ -53,8 +53,8 @@ pub fn read_attachment<'t>(rest: Rest<'t>) -> Result<Rest<'t>, End>
 ///
 /// `Bad` at the first token that can't stand there.
 #[tactic(auto, unfolding(crate::specs::Attributes::attachment_list))]
-pub fn skip_attachments<'t>(rest: Rest<'t>) -> Result<Rest<'t>, End>
-    ensures { Gives (λ rest. (tt, rest)) result (attachments.read rest.entry) }
+pub fn skip_attachments<'t>(rest: Cursor<'t>) -> Result<Cursor<'t>, End>
+    ensures { GivesExactly (λ rest. (tt, rest)) result (attachments.read rest.entry) }
 {
     let mut rest = rest;
     while rest.first() == Class::Comma {
@@ -68,14 +68,14 @@ pub fn skip_attachments<'t>(rest: Rest<'t>) -> Result<Rest<'t>, End>
 /// # Errors
 ///
 /// `Bad` at the first token that can't stand there, `NoMemory` if memory runs out.
-pub fn skip_round_brackets<'t>(alloc: Global, rest: Rest<'t>) -> Result<Rest<'t>, End>
+pub fn skip_round_brackets<'t>(alloc: Global, rest: Cursor<'t>) -> Result<Cursor<'t>, End>
     ensures { Gives (λ rest. (tt, rest)) result (round_brackets.read rest.entry) }
 {
     skip_enclosed(alloc, rest, Bracket::Round)
 }
 
 /// Reads the word of an attribute, and what it says between brackets.
-fn skip_word_attribute<'t>(alloc: Global, rest: Rest<'t>) -> Result<Rest<'t>, End>
+fn skip_word_attribute<'t>(alloc: Global, rest: Cursor<'t>) -> Result<Cursor<'t>, End>
     ensures { Gives (λ rest. (None, rest)) result ((made no_alignment (Attribute ▷ option round_brackets)).read rest.entry) }
 {
     let rest = word(rest, Class::Attribute)?;
@@ -86,8 +86,8 @@ fn skip_word_attribute<'t>(alloc: Global, rest: Rest<'t>) -> Result<Rest<'t>, En
 }
 
 /// Reads a string as an attribute, and the string that is its value.
-fn skip_string_attribute<'t>(rest: Rest<'t>) -> Result<Rest<'t>, End>
-    ensures { Gives (λ rest. (None, rest)) result ((made no_alignment (Str ▷ option (Equal ▷ word Str))).read rest.entry) }
+fn skip_string_attribute<'t>(rest: Cursor<'t>) -> Result<Cursor<'t>, End>
+    ensures { GivesExactly (λ rest. (None, rest)) result ((made no_alignment (Str ▷ option (Equal ▷ word Str))).read rest.entry) }
 {
     let rest = word(rest, Class::Str)?;
     match rest.first() {
@@ -102,7 +102,7 @@ fn skip_string_attribute<'t>(rest: Rest<'t>) -> Result<Rest<'t>, End>
 ///
 /// `Bad` at the first token that can't stand there, `NoMemory` if memory runs out.
 #[tactic(auto, unfolding(crate::specs::Attributes::attribute_forms))]
-pub fn read_attribute<'t>(alloc: Global, rest: Rest<'t>) -> Result<(Option<u64>, Rest<'t>), End>
+pub fn read_attribute<'t>(alloc: Global, rest: Cursor<'t>) -> Result<(Option<u64>, Cursor<'t>), End>
     ensures { Gives (λ x. x) result (an_attribute.read rest.entry) }
 {
     match rest.first() {
@@ -139,7 +139,10 @@ pub fn later(before: Option<u64>, found: Option<u64>) -> Option<u64>
 ///
 /// `Bad` at the first token that can't stand there, `NoMemory` if memory runs out.
 #[tactic(auto, unfolding(crate::specs::Attributes::attribute_list))]
-pub fn read_attributes<'t>(alloc: Global, rest: Rest<'t>) -> Result<(Option<u64>, Rest<'t>), End>
+pub fn read_attributes<'t>(
+    alloc: Global,
+    rest: Cursor<'t>,
+) -> Result<(Option<u64>, Cursor<'t>), End>
     ensures { Gives (λ x. x) result (attributes.read rest.entry) }
 {
     let mut rest = rest;

@@ -2,7 +2,7 @@
 use Rattle.std.proofs.Common.{◌≡◌, Bool, refl}
 use Rattle.std.specs.Prelude.{Option}
 use Rattle.ir_syntax.specs.declared.instr.Op.{Op}
-use Rattle.ir_body.specs.declared.statement.Doing.TheVariants as doing
+use Rattle.ir_body.specs.declared.statement.PhiOrOp.TheVariants as doing
 use Rattle.ir_body.specs.declared.statement.Place.{Place}
 use Rattle.ir_body.specs.declared.statement.Place.TheVariants as place
 use Rattle.ir_words.specs.declared.class.Class.TheVariants as class

@@ -4,12 +4,12 @@ use Rattle.ir_syntax.specs.declared.block.Block.{Block}
 use Rattle.ir_syntax.specs.declared.instr.Instr.{Instr}
 use Rattle.ir_syntax.specs.declared.instr.Op.{Op}
 use Rattle.ir_syntax.specs.declared.instr.Op.TheVariants as operation
-use Rattle.ir_syntax.specs.declared.name.Name.{Name}
-use Rattle.ir_syntax.specs.declared.name.Name.TheVariants.{Implicit}
+use Rattle.ir_ident.specs.declared.name.Name.{Name}
+use Rattle.ir_ident.specs.declared.name.Name.TheVariants.{Implicit}
 use Rattle.ir_syntax.specs.declared.phi.Phi.{Phi}
 use Rattle.ir_syntax.specs.declared.term.Term.{Term}
-use Rattle.ir_body.specs.declared.statement.Doing.{Doing}
-use Rattle.ir_body.specs.declared.statement.Doing.TheVariants as doing
+use Rattle.ir_body.specs.declared.statement.PhiOrOp.{PhiOrOp}
+use Rattle.ir_body.specs.declared.statement.PhiOrOp.TheVariants as doing
 use Rattle.ir_body.specs.declared.statement.Place.{Place}
 use Rattle.ir_body.specs.declared.statement.Place.TheVariants as place
 use Rattle.ir_body.specs.declared.statement.Statement.{Statement}
@@ -36,10 +36,10 @@ result_name (Some name) op = Some name
 result_name None op = if gives_result op then Some Implicit else None
 
 -- a statement on a line, behind a name or none
-abbrev pub statement_of : ℕ × (Option Name × Doing) → Statement
+abbrev pub statement_of : ℕ × (Option Name × PhiOrOp) → Statement
 statement_of z = at z.0 z.1.0 z.1.1
   where
-    at : ℕ → Option Name → Doing → Statement
+    at : ℕ → Option Name → PhiOrOp → Statement
     at line name (doing.Joins ty entries) = statement.Joining (record { line = line; result = unwrap_or name Implicit; ty = ty; entries = entries })
     at line name (doing.Does None) = statement.Dropped
     at line name (doing.Does (Some op)) = statement.Kept (record { line = line; result = result_name name op; op = op })
@@ -58,14 +58,14 @@ abbrev pub doing_goes : List Class
 doing_goes = class.Comma ∷ class.OpenRound ∷ class.Equal ∷ class.Attribute ∷ class.Align ∷ class.Str ∷ class.Attr ∷ []
 
 -- "phi" .. | op without alloca
-unfoldable pub phi_or_op_forms : Rule Doing
+unfoldable pub phi_or_op_forms : Rule PhiOrOp
 phi_or_op_forms = either (made (λ (p : PhiParts). doing.Joins p.0 p.1) phis) (made (λ (op : Option Op). doing.Does op) plain_ops)
 
-abbrev pub phi_or_op : Rule Doing
+abbrev pub phi_or_op : Rule PhiOrOp
 phi_or_op = within doing_starts doing_goes false phi_or_op_forms
 
 -- In the first block no phi stands, in the others no alloca, and no phi behind an instruction.
-unfoldable pub doings : Place → Rule Doing
+unfoldable pub doings : Place → Rule PhiOrOp
 doings place.Entry = within doing_starts doing_goes false (made (λ (op : Option Op). doing.Does op) entry_ops)
 doings place.PhisOnly = phi_or_op
 doings place.AfterPhis = within doing_starts doing_goes false (made (λ (op : Option Op). doing.Does op) plain_ops)

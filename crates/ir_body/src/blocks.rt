@@ -6,15 +6,16 @@ ghost use Rattle.ir_rules.specs.Rules.{option};
 
 use crate::statement::Place;
 use crate::statements::read_block_parts;
+use ir_ident::Name;
 use ir_rules::End;
-use ir_syntax::{Block, Name};
+use ir_syntax::Block;
 use ir_terms::read_term;
 use ir_types::name_of;
-use ir_words::{Class, Rest};
+use ir_words::{Class, Cursor};
 use std::alloc::Global;
 
 /// Reads a label where one stands.
-fn read_label<'t>(alloc: Global, rest: Rest<'t>) -> Result<(Option<Name>, Rest<'t>), End>
+fn read_label<'t>(alloc: Global, rest: Cursor<'t>) -> Result<(Option<Name>, Cursor<'t>), End>
     ensures { Gives (λ x. x) result ((option labels).read rest.entry) }
 {
     match rest.first() {
@@ -38,9 +39,9 @@ fn first_place(first: bool) -> Place
 #[tactic(auto, unfolding(crate::specs::Blocks::block_forms))]
 pub(crate) fn read_block_text<'t>(
     alloc: Global,
-    rest: Rest<'t>,
+    rest: Cursor<'t>,
     first: bool,
-) -> Result<(Block, Rest<'t>), End>
+) -> Result<(Block, Cursor<'t>), End>
     ensures { Gives (λ x. x) result ((blocks first).read rest.entry) }
 {
     let line = rest.line();

@@ -9,7 +9,7 @@ ghost use Rattle.ir_words.specs.Lexemes.{Lexeme};
 use crate::blocks::read_block_text;
 use ir_rules::End;
 use ir_syntax::Block;
-use ir_words::Rest;
+use ir_words::Cursor;
 use std::alloc::Global;
 
 /// Reads a basic block, the first one of a function or another, as far as its text goes (LangRef,
@@ -18,7 +18,11 @@ use std::alloc::Global;
 /// # Errors
 ///
 /// `NoMemory` where memory runs out, else `Bad` at the first token at which no block goes on.
-pub fn read_block<'t>(alloc: Global, rest: Rest<'t>, first: bool) -> Result<(Block, Rest<'t>), End>
+pub fn read_block<'t>(
+    alloc: Global,
+    rest: Cursor<'t>,
+    first: bool,
+) -> Result<(Block, Cursor<'t>), End>
     ensures ok { IfOk result (λ x. IsFront (blocks first) rest.entry x.0 x.1) }
     ensures bad { IfErr result (λ end. StopsAt (blocks first) rest.entry end) }
     ensures only { (us : List Lexeme) (vs : List Lexeme) (x : Block) → rest.entry ≡ us ++ vs → (blocks first).text us x → begins (blocks first).goes vs ≡ false → Gives (λ x. x) result (Ok (x, vs)) }

@@ -3,7 +3,7 @@ use ir_syntax::{Instr, Op, Phi, PhiEntries, TyText};
 
 /// A phi or an operation, without its line and its name.
 #[derive(Drop)]
-pub(crate) enum Doing {
+pub(crate) enum PhiOrOp {
     /// A phi: its type and its entries.
     Joins(TyText, PhiEntries),
     /// An operation; none for a call that is dropped.

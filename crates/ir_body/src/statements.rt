@@ -4,17 +4,18 @@ ghost use Rattle.ir_body.specs.Blocks.{after_statement, block_parts, doings, giv
 ghost use Rattle.ir_rules.specs.Reading.{Gives};
 ghost use Rattle.ir_rules.specs.Rules.{has, option};
 
-use crate::statement::{Doing, Place, Statement};
+use crate::statement::{PhiOrOp, Place, Statement};
+use ir_ident::Name;
 use ir_ops::{read_entry_op, read_plain_op};
 use ir_rules::{End, word};
-use ir_syntax::{Instr, Instrs, Name, Op, Phi, Phis};
+use ir_syntax::{Instr, Instrs, Op, Phi, Phis};
 use ir_terms::read_phi;
 use ir_types::read_local_name;
-use ir_words::{Class, Rest};
+use ir_words::{Class, Cursor};
 use std::alloc::{AllocError, Global};
 
 /// Reads a name and `=` where a name stands.
-fn read_result<'t>(alloc: Global, rest: Rest<'t>) -> Result<(Option<Name>, Rest<'t>), End>
+fn read_result<'t>(alloc: Global, rest: Cursor<'t>) -> Result<(Option<Name>, Cursor<'t>), End>
     ensures { Gives (λ x. x) result ((option results).read rest.entry) }
 {
     match rest.first() {
@@ -29,35 +30,39 @@ fn read_result<'t>(alloc: Global, rest: Rest<'t>) -> Result<(Option<Name>, Rest<
 
 /// Reads a phi, or an operation that isn't `alloca`.
 #[tactic(auto, unfolding(crate::specs::Blocks::phi_or_op_forms))]
-fn read_phi_or_op<'t>(alloc: Global, rest: Rest<'t>) -> Result<(Doing, Rest<'t>), End>
+fn read_phi_or_op<'t>(alloc: Global, rest: Cursor<'t>) -> Result<(PhiOrOp, Cursor<'t>), End>
     ensures { Gives (λ x. x) result (phi_or_op.read rest.entry) }
 {
     match rest.first() {
         Class::Phi => {
             let ((ty, entries), rest) = read_phi(alloc, rest)?;
-            Ok((Doing::Joins(ty, entries), rest))
+            Ok((PhiOrOp::Joins(ty, entries), rest))
         }
         _ => {
             let (op, rest) = read_plain_op(alloc, rest)?;
-            Ok((Doing::Does(op), rest))
+            Ok((PhiOrOp::Does(op), rest))
         }
     }
 }
 
 /// Reads what may stand at a place, behind its name.
 #[tactic(auto, unfolding(crate::specs::Blocks::doings))]
-fn read_doing<'t>(alloc: Global, rest: Rest<'t>, place: Place) -> Result<(Doing, Rest<'t>), End>
+fn read_doing<'t>(
+    alloc: Global,
+    rest: Cursor<'t>,
+    place: Place,
+) -> Result<(PhiOrOp, Cursor<'t>), End>
     ensures { Gives (λ x. x) result ((doings place).read rest.entry) }
 {
     match place {
         Place::Entry => {
             let (op, rest) = read_entry_op(alloc, rest)?;
-            Ok((Doing::Does(op), rest))
+            Ok((PhiOrOp::Does(op), rest))
         }
         Place::PhisOnly => read_phi_or_op(alloc, rest),
         Place::AfterPhis => {
             let (op, rest) = read_plain_op(alloc, rest)?;
-            Ok((Doing::Does(op), rest))
+            Ok((PhiOrOp::Does(op), rest))
         }
     }
 }
@@ -85,17 +90,17 @@ fn result_name(name: Option<Name>, op: &Op) -> Option<Name>
 }
 
 /// A statement on a line, behind a name or none.
-fn statement_of(line: u32, name: Option<Name>, doing: Doing) -> Statement
+fn statement_of(line: u32, name: Option<Name>, doing: PhiOrOp) -> Statement
     ensures { result ≡ statement_of (line, (name, doing)) }
 {
     match doing {
-        Doing::Joins(ty, entries) => Statement::Joining(Phi {
+        PhiOrOp::Joins(ty, entries) => Statement::Joining(Phi {
             line,
             result: name.unwrap_or(Name::Implicit),
             ty,
             entries,
         }),
-        Doing::Does(op) => match op {
+        PhiOrOp::Does(op) => match op {
             Some(op) => Statement::Kept(Instr {
                 line,
                 result: result_name(name, &op),
@@ -110,9 +115,9 @@ fn statement_of(line: u32, name: Option<Name>, doing: Doing) -> Statement
 #[tactic(auto, unfolding(crate::specs::Blocks::statement_forms))]
 fn read_statement<'t>(
     alloc: Global,
-    rest: Rest<'t>,
+    rest: Cursor<'t>,
     place: Place,
-) -> Result<(Statement, Rest<'t>), End>
+) -> Result<(Statement, Cursor<'t>), End>
     ensures { Gives (λ x. x) result ((statements place).read rest.entry) }
 {
     let line = rest.line();
@@ -196,9 +201,9 @@ fn begins_statement(class: Class) -> bool
 #[tactic(auto, unfolding(crate::specs::Blocks::statement_lists))]
 pub(crate) fn read_block_parts<'t>(
     alloc: Global,
-    rest: Rest<'t>,
+    rest: Cursor<'t>,
     place: Place,
-) -> Result<((Phis, Instrs), Rest<'t>), End>
+) -> Result<((Phis, Instrs), Cursor<'t>), End>
     ensures { Gives (λ x. x) result ((block_parts place).read rest.entry) }
 {
     let mut rest = rest;

@@ -2,7 +2,7 @@
 use Rattle.std.proofs.Common.{◌≡◌, ℕ, List, [], ◌∷◌, Some, None, refl}
 use Rattle.std.specs.Prelude.{Option}
 use Rattle.ir_syntax.specs.declared.instr.Arg.{Arg}
-use Rattle.ir_syntax.specs.declared.name.NameUse.{NameUse}
+use Rattle.ir_ident.specs.declared.name.NameUse.{NameUse}
 use Rattle.ir_syntax.specs.declared.operand.TypedOperand.{TypedOperand}
 use Rattle.ir_words.specs.Intrinsics.{begins_with, global_class, global_name, intrinsic_class, is_sized, name_class}
 use Rattle.ir_words.specs.declared.class.Class.TheVariants as class

@@ -1,14 +1,13 @@
 -- Calls (LangRef, "'call' Instruction"). One of an intrinsic that means nothing here is dropped.
-use Rattle.std.specs.Prelude.{ℕ, Option, Some, None, List, [], ◌∷◌, Bool, false, true}
+use Rattle.std.specs.Prelude.{ℕ, Option, Some, None, List, [], ◌∷◌, false}
 use Rattle.ir_syntax.specs.Types.{TextTree}
 use Rattle.ir_syntax.specs.declared.instr.Arg.{Arg}
 use Rattle.ir_syntax.specs.declared.instr.Op.{Op}
 use Rattle.ir_syntax.specs.declared.instr.Op.TheVariants as operation
-use Rattle.ir_syntax.specs.declared.name.NameUse.{NameUse}
+use Rattle.ir_ident.specs.declared.name.NameUse.{NameUse}
 use Rattle.ir_syntax.specs.declared.operand.Operand.{Operand}
 use Rattle.ir_syntax.specs.declared.operand.TypedOperand.{TypedOperand}
-use Rattle.ir_words.specs.declared.class.Class.{Class}
-use Rattle.ir_words.specs.declared.class.Class.TheVariants.{Align, Attribute, Attr, Bang, Call, Ccc, CloseRound, Coldcc, Comma, DroppedIntrinsic, Equal, Fastcc, Global, Intrinsic, IntType, Local, Meta, Metadata, MetadataIntrinsic, Notail, OpenCurly, OpenPacked, OpenRound, OpenSquare, Ptr, Str, Tail}
+use Rattle.ir_words.specs.declared.class.Class.TheVariants.{Align, Attribute, Attr, Bang, Call, Ccc, CloseRound, Coldcc, DroppedIntrinsic, Equal, Fastcc, Global, Intrinsic, IntType, Local, Meta, Metadata, MetadataIntrinsic, Notail, OpenCurly, OpenPacked, OpenRound, OpenSquare, Ptr, Str, Tail}
 use Rattle.ir_rules.specs.Balance.{enclosed}
 use Rattle.ir_rules.specs.Leaves.{ending, leading}
 use Rattle.ir_rules.specs.declared.bracket.Bracket.TheVariants.{Curly}

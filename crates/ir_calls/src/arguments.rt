@@ -9,12 +9,12 @@ use ir_rules::{End, word};
 use ir_syntax::{Arg, Args, TyText, TypeTexts};
 use ir_types::{begins_type, read_type};
 use ir_values::read_operand;
-use ir_words::{Class, Rest};
+use ir_words::{Class, Cursor};
 use std::alloc::Global;
 
 /// Reads an argument.
 #[tactic(auto, unfolding(crate::specs::Calls::arg_forms))]
-pub(crate) fn read_arg<'t>(alloc: Global, rest: Rest<'t>) -> Result<(Arg, Rest<'t>), End>
+pub(crate) fn read_arg<'t>(alloc: Global, rest: Cursor<'t>) -> Result<(Arg, Cursor<'t>), End>
     ensures { Gives (λ x. x) result (args.read rest.entry) }
 {
     let (ty, rest) = read_type(alloc, rest, 64)?;
@@ -24,7 +24,7 @@ pub(crate) fn read_arg<'t>(alloc: Global, rest: Rest<'t>) -> Result<(Arg, Rest<'
 }
 
 /// Reads one argument or more, parted by commas.
-fn read_some_args<'t>(alloc: Global, rest: Rest<'t>) -> Result<(Vec<Arg>, Rest<'t>), End>
+fn read_some_args<'t>(alloc: Global, rest: Cursor<'t>) -> Result<(Vec<Arg>, Cursor<'t>), End>
     ensures { Gives (λ x. (x.0.items, x.1)) result ((commas_some args).read rest.entry) }
 {
     let (first, rest) = read_arg(alloc, rest)?;
@@ -40,7 +40,7 @@ fn read_some_args<'t>(alloc: Global, rest: Rest<'t>) -> Result<(Vec<Arg>, Rest<'
 }
 
 /// Reads no argument, or more, parted by commas.
-fn read_args<'t>(alloc: Global, rest: Rest<'t>) -> Result<(Args, Rest<'t>), End>
+fn read_args<'t>(alloc: Global, rest: Cursor<'t>) -> Result<(Args, Cursor<'t>), End>
     ensures { Gives (λ x. x) result ((commas args).read rest.entry) }
 {
     if begins_type(rest.first()) {
@@ -53,7 +53,7 @@ fn read_args<'t>(alloc: Global, rest: Rest<'t>) -> Result<(Args, Rest<'t>), End>
 
 /// Reads arguments between round brackets.
 #[tactic(auto, unfolding(crate::specs::Calls::arg_list_forms))]
-pub(crate) fn read_arg_list<'t>(alloc: Global, rest: Rest<'t>) -> Result<(Args, Rest<'t>), End>
+pub(crate) fn read_arg_list<'t>(alloc: Global, rest: Cursor<'t>) -> Result<(Args, Cursor<'t>), End>
     ensures { Gives (λ x. x) result (arg_lists.read rest.entry) }
 {
     let rest = word(rest, Class::OpenRound)?;
@@ -63,7 +63,7 @@ pub(crate) fn read_arg_list<'t>(alloc: Global, rest: Rest<'t>) -> Result<(Args, 
 }
 
 /// Reads one type or more, parted by commas.
-fn read_some_types<'t>(alloc: Global, rest: Rest<'t>) -> Result<(Vec<TyText>, Rest<'t>), End>
+fn read_some_types<'t>(alloc: Global, rest: Cursor<'t>) -> Result<(Vec<TyText>, Cursor<'t>), End>
     ensures { Gives (λ x. (x.0.items, x.1)) result ((commas_some (types 64)).read rest.entry) }
 {
     let (first, rest) = read_type(alloc, rest, 64)?;
@@ -79,7 +79,7 @@ fn read_some_types<'t>(alloc: Global, rest: Rest<'t>) -> Result<(Vec<TyText>, Re
 }
 
 /// Reads no type, or more, parted by commas.
-fn read_types<'t>(alloc: Global, rest: Rest<'t>) -> Result<(TypeTexts, Rest<'t>), End>
+fn read_types<'t>(alloc: Global, rest: Cursor<'t>) -> Result<(TypeTexts, Cursor<'t>), End>
     ensures { Gives (λ x. x) result ((commas (types 64)).read rest.entry) }
 {
     if begins_type(rest.first()) {
@@ -91,7 +91,7 @@ fn read_types<'t>(alloc: Global, rest: Rest<'t>) -> Result<(TypeTexts, Rest<'t>)
 }
 
 /// Reads types between round brackets.
-fn read_type_list<'t>(alloc: Global, rest: Rest<'t>) -> Result<(TypeTexts, Rest<'t>), End>
+fn read_type_list<'t>(alloc: Global, rest: Cursor<'t>) -> Result<(TypeTexts, Cursor<'t>), End>
     ensures { Gives (λ x. x) result (parameter_types.read rest.entry) }
 {
     let rest = word(rest, Class::OpenRound)?;
@@ -107,8 +107,8 @@ fn read_type_list<'t>(alloc: Global, rest: Rest<'t>) -> Result<(TypeTexts, Rest<
 /// `Bad` at the first token that can't stand there, `NoMemory` if memory runs out.
 pub fn read_parameter_types<'t>(
     alloc: Global,
-    rest: Rest<'t>,
-) -> Result<(Option<TypeTexts>, Rest<'t>), End>
+    rest: Cursor<'t>,
+) -> Result<(Option<TypeTexts>, Cursor<'t>), End>
     ensures { Gives (λ x. x) result ((option parameter_types).read rest.entry) }
 {
     match rest.first() {

@@ -3,7 +3,7 @@ ghost use Rattle.ir_attributes.specs.Attributes.{attributes};
 ghost use Rattle.ir_calls.specs.Calls.{arg_lists, call_of, called_forms, callees, calls, convention};
 ghost use Rattle.ir_values.specs.Values.{global_uses_in};
 ghost use Rattle.ir_rules.specs.Leaves.{ending};
-ghost use Rattle.ir_rules.specs.Reading.{Gives};
+ghost use Rattle.ir_rules.specs.Reading.{Gives, GivesExactly};
 ghost use Rattle.ir_rules.specs.Rules.{dropped, has, seq, ◌▷◌};
 ghost use Rattle.ir_words.specs.declared.class.Class.TheVariants as Classes;
 ghost use Rattle.ir_words.specs.declared.class.Class.TheVariants.{Call, Ccc, Coldcc, Fastcc, Intrinsic};
@@ -12,18 +12,22 @@ ghost use Rattle.std.specs.Prelude.{◌≡◌, [], ◌∷◌};
 use crate::arguments::{read_arg_list, read_parameter_types};
 use crate::metadata::skip_metadata_list;
 use ir_attributes::read_attributes;
+use ir_ident::NameUse;
 use ir_rules::{End, word};
-use ir_syntax::{Args, NameUse, Op, TyText, TypeTexts};
+use ir_syntax::{Args, Op, TyText, TypeTexts};
 use ir_types::read_result_type;
 use ir_values::{read_dropped_intrinsic, read_function_use, read_metadata_intrinsic};
-use ir_words::{Class, Rest};
+use ir_words::{Class, Cursor};
 use std::alloc::Global;
 
 /// A function that is called with its arguments; none of one whose calls are dropped.
 type Callee = Option<(NameUse, Args)>;
 
 /// Reads a function whose calls are kept, and its arguments.
-fn read_kept_callee<'t>(alloc: Global, rest: Rest<'t>) -> Result<((NameUse, Args), Rest<'t>), End>
+fn read_kept_callee<'t>(
+    alloc: Global,
+    rest: Cursor<'t>,
+) -> Result<((NameUse, Args), Cursor<'t>), End>
     ensures { Gives (λ x. x) result ((seq (global_uses_in (Classes.Global ∷ Intrinsic ∷ [])) arg_lists).read rest.entry) }
 {
     let (callee, rest) = read_function_use(alloc, rest)?;
@@ -33,7 +37,7 @@ fn read_kept_callee<'t>(alloc: Global, rest: Rest<'t>) -> Result<((NameUse, Args
 
 /// Reads what is called, and its arguments.
 #[tactic(auto, unfolding(crate::specs::Calls::callee_forms))]
-fn read_callee<'t>(alloc: Global, rest: Rest<'t>) -> Result<(Callee, Rest<'t>), End>
+fn read_callee<'t>(alloc: Global, rest: Cursor<'t>) -> Result<(Callee, Cursor<'t>), End>
     ensures { Gives (λ x. x) result (callees.read rest.entry) }
 {
     match rest.first() {
@@ -61,8 +65,8 @@ fn read_callee<'t>(alloc: Global, rest: Rest<'t>) -> Result<(Callee, Rest<'t>), 
 /// # Errors
 ///
 /// `Bad` at this token if it is none.
-pub fn skip_convention<'t>(rest: Rest<'t>) -> Result<Rest<'t>, End>
-    ensures { Gives (λ rest. (tt, rest)) result (convention.read rest.entry) }
+pub fn skip_convention<'t>(rest: Cursor<'t>) -> Result<Cursor<'t>, End>
+    ensures { GivesExactly (λ rest. (tt, rest)) result (convention.read rest.entry) }
 {
     match rest.first() {
         Class::Ccc | Class::Fastcc => Ok(rest.skip()),
@@ -78,8 +82,8 @@ fn is_convention(class: Class) -> bool
 }
 
 /// Reads calling conventions.
-fn skip_conventions<'t>(rest: Rest<'t>) -> Result<Rest<'t>, End>
-    ensures { Gives (λ rest. (tt, rest)) result ((dropped convention).read rest.entry) }
+fn skip_conventions<'t>(rest: Cursor<'t>) -> Result<Cursor<'t>, End>
+    ensures { GivesExactly (λ rest. (tt, rest)) result ((dropped convention).read rest.entry) }
 {
     let mut rest = rest;
     while is_convention(rest.first()) {
@@ -104,7 +108,7 @@ fn call_of(ty: Option<TyText>, params: Option<TypeTexts>, callee: Callee) -> Opt
 }
 
 /// Reads what is called, its arguments, and the attributes of the call.
-fn read_attributed_callee<'t>(alloc: Global, rest: Rest<'t>) -> Result<(Callee, Rest<'t>), End>
+fn read_attributed_callee<'t>(alloc: Global, rest: Cursor<'t>) -> Result<(Callee, Cursor<'t>), End>
     ensures { Gives (λ x. x) result ((ending callees attributes).read rest.entry) }
 {
     let (callee, rest) = read_callee(alloc, rest)?;
@@ -114,7 +118,7 @@ fn read_attributed_callee<'t>(alloc: Global, rest: Rest<'t>) -> Result<(Callee, 
 
 /// Reads what stands behind `call`.
 #[tactic(auto, unfolding(crate::specs::Calls::called_forms))]
-fn read_called<'t>(alloc: Global, rest: Rest<'t>) -> Result<(Option<Op>, Rest<'t>), End>
+fn read_called<'t>(alloc: Global, rest: Cursor<'t>) -> Result<(Option<Op>, Cursor<'t>), End>
     ensures { Gives (λ x. x) result (called_forms.read rest.entry) }
 {
     let rest = skip_conventions(rest)?;
@@ -126,7 +130,7 @@ fn read_called<'t>(alloc: Global, rest: Rest<'t>) -> Result<(Option<Op>, Rest<'t
 }
 
 /// Reads `call` and what stands behind it.
-fn read_plain_call<'t>(alloc: Global, rest: Rest<'t>) -> Result<(Option<Op>, Rest<'t>), End>
+fn read_plain_call<'t>(alloc: Global, rest: Cursor<'t>) -> Result<(Option<Op>, Cursor<'t>), End>
     ensures { Gives (λ x. x) result ((Call ▷ called_forms).read rest.entry) }
 {
     let rest = word(rest, Class::Call)?;
@@ -139,7 +143,7 @@ fn read_plain_call<'t>(alloc: Global, rest: Rest<'t>) -> Result<(Option<Op>, Res
 ///
 /// `Bad` at the first token that can't stand there, `NoMemory` if memory runs out.
 #[tactic(auto, unfolding(crate::specs::Calls::call_forms))]
-pub fn read_call<'t>(alloc: Global, rest: Rest<'t>) -> Result<(Option<Op>, Rest<'t>), End>
+pub fn read_call<'t>(alloc: Global, rest: Cursor<'t>) -> Result<(Option<Op>, Cursor<'t>), End>
     ensures { Gives (λ x. x) result (calls.read rest.entry) }
 {
     match rest.first() {

@@ -10,11 +10,11 @@ use crate::arguments::read_arg;
 use ir_attributes::skip_round_brackets;
 use ir_rules::{Bracket, End, skip_enclosed, word};
 use ir_values::read_typed_operand;
-use ir_words::{Class, Rest};
+use ir_words::{Class, Cursor};
 use std::alloc::Global;
 
 /// Reads a metadata name, and what it says between brackets.
-fn skip_named_metadata<'t>(alloc: Global, rest: Rest<'t>) -> Result<Rest<'t>, End>
+fn skip_named_metadata<'t>(alloc: Global, rest: Cursor<'t>) -> Result<Cursor<'t>, End>
     ensures { Gives (λ rest. (tt, rest)) result ((made (λ (o : Option (Unit {0})). tt {0}) (Meta ▷ option round_brackets)).read rest.entry) }
 {
     let rest = word(rest, Class::Meta)?;
@@ -26,7 +26,7 @@ fn skip_named_metadata<'t>(alloc: Global, rest: Rest<'t>) -> Result<Rest<'t>, En
 
 /// Reads what stands behind `metadata`.
 #[tactic(auto, unfolding(crate::specs::Calls::metadata_forms))]
-fn skip_metadata_value<'t>(alloc: Global, rest: Rest<'t>) -> Result<Rest<'t>, End>
+fn skip_metadata_value<'t>(alloc: Global, rest: Cursor<'t>) -> Result<Cursor<'t>, End>
     ensures { Gives (λ rest. (tt, rest)) result (metadata_value.read rest.entry) }
 {
     match rest.first() {
@@ -42,7 +42,7 @@ fn skip_metadata_value<'t>(alloc: Global, rest: Rest<'t>) -> Result<Rest<'t>, En
 
 /// Reads an argument, which may be metadata.
 #[tactic(auto, unfolding(crate::specs::Calls::metadata_arg_forms))]
-fn skip_metadata_arg<'t>(alloc: Global, rest: Rest<'t>) -> Result<Rest<'t>, End>
+fn skip_metadata_arg<'t>(alloc: Global, rest: Cursor<'t>) -> Result<Cursor<'t>, End>
     ensures { Gives (λ rest. (tt, rest)) result (metadata_args.read rest.entry) }
 {
     match rest.first() {
@@ -56,7 +56,7 @@ fn skip_metadata_arg<'t>(alloc: Global, rest: Rest<'t>) -> Result<Rest<'t>, End>
 }
 
 /// Reads one such argument or more, parted by commas.
-fn skip_some_metadata_args<'t>(alloc: Global, rest: Rest<'t>) -> Result<Rest<'t>, End>
+fn skip_some_metadata_args<'t>(alloc: Global, rest: Cursor<'t>) -> Result<Cursor<'t>, End>
     ensures { Gives (λ rest. (tt, rest)) result ((made (λ (xs : List (Unit {0})). tt {0}) (commas_some metadata_args)).read rest.entry) }
 {
     let mut rest = skip_metadata_arg(alloc, rest)?;
@@ -68,16 +68,16 @@ fn skip_some_metadata_args<'t>(alloc: Global, rest: Rest<'t>) -> Result<Rest<'t>
 
 /// Reads such arguments between round brackets.
 #[tactic(auto, unfolding(crate::specs::Calls::metadata_list_forms))]
-pub(crate) fn skip_metadata_list<'t>(alloc: Global, rest: Rest<'t>) -> Result<Rest<'t>, End>
+pub(crate) fn skip_metadata_list<'t>(alloc: Global, rest: Cursor<'t>) -> Result<Cursor<'t>, End>
     ensures { Gives (λ rest. (tt, rest)) result (metadata_lists.read rest.entry) }
 {
     let rest = word(rest, Class::OpenRound)?;
     let rest = skip_metadata_args(alloc, rest)?;
-    word(rest, Class::CloseRound)
+    Ok(word(rest, Class::CloseRound)?)
 }
 
 /// Reads no such argument, or more, parted by commas.
-fn skip_metadata_args<'t>(alloc: Global, rest: Rest<'t>) -> Result<Rest<'t>, End>
+fn skip_metadata_args<'t>(alloc: Global, rest: Cursor<'t>) -> Result<Cursor<'t>, End>
     ensures { Gives (λ rest. (tt, rest)) result ((made (λ (xs : List (Unit {0})). tt {0}) (commas metadata_args)).read rest.entry) }
 {
     match rest.first() {

@@ -1,10 +1,2 @@
-pub mod ExtentLemmas
-pub mod KeptLemmas
-pub mod LevelLemmas
-pub mod MentionLemmas
-pub mod PlaceLemmas
 pub mod RepeatedLemmas
-pub mod RoundLemmas
-pub mod SearchLemmas
-pub mod SeenLemmas
 pub mod SizeLemmas

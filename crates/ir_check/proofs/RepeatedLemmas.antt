@@ -2,10 +2,11 @@
 use Rattle.std.proofs.Common.{◌≡◌, ◌∙◌, ℕ, ◌+◌, ◌<◌, Bool, ◌||◌, List, [], ◌∷◌, ◌++◌, length, take, get_or, sym, ap}
 use Rattle.std.proofs.lemmas.List.{append_assoc, append-nil, take_more}
 use Rattle.std.proofs.lemmas.List.Folds.{list_any_more}
-use Rattle.ir_check.specs.Repeated.{is_among, line_if, repeats, repeats_after}
-use Rattle.ir_syntax.specs.Names.{same_name}
-use Rattle.ir_syntax.specs.declared.name.Name.{Name}
-use Rattle.ir_syntax.specs.declared.name.NameUse.{NameUse}
+use Rattle.ir_check.specs.Repeated.{is_among, repeats, repeats_after}
+use Rattle.ir_syntax.specs.Lines.{line_if}
+use Rattle.ir_ident.specs.Names.{same_name}
+use Rattle.ir_ident.specs.declared.name.Name.{Name}
+use Rattle.ir_ident.specs.declared.name.NameUse.{NameUse}
 
 repeats_snoc : (before names : List NameUse) (n : NameUse) →
     repeats_after before (names ++ n ∷ []) ≡ repeats_after before names ++ line_if (is_among (before ++ names) n.name) n.line

@@ -3,7 +3,7 @@ use Rattle.std.proofs.Common.{◌≡◌, ◌∙◌, ℕ, ◌+◌, Bool, true, fa
 use Rattle.std.specs.List.{list_any, sum, sum_by}
 use Rattle.std.proofs.lemmas.Bool.Decides.{nat_tests}
 use Rattle.std.proofs.lemmas.List.Sums.{sum-map, sum_by-cons}
-use Rattle.ir_check.specs.Capped.{capped}
+use Rattle.ir_cfg.specs.Capped.{capped}
 
 above-one : (n : ℕ) → nat_lt 65536 (capped n) ≡ nat_lt 65536 n
 above-one n = grind (arith, nat_tests)

@@ -1,15 +1,4 @@
-pub mod Capped
-pub mod Definitions
-pub mod Extents
-pub mod KeptSizes
 pub mod Limits
-pub mod Measured
-pub mod Mentions
-pub mod OpTypes
-pub mod Places
-pub mod Reached
 pub mod Repeated
 pub mod Reserved
-pub mod Searches
 pub mod Signatures
-pub mod Sized

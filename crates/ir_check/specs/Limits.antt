@@ -1,9 +1,9 @@
 -- What a module has too much of.
 use Rattle.std.specs.Prelude.{Option, None, Some, nat_lt, length, if◌then◌else◌}
 use Rattle.std.specs.List.{list_any}
-use Rattle.ir_check.specs.Definitions.{defined_functions}
-use Rattle.ir_check.specs.KeptSizes.{function_size, module_size}
-use Rattle.ir_check.specs.Mentions.{mentioned_places}
+use Rattle.ir_syntax.specs.Definitions.{defined_functions}
+use Rattle.ir_cfg.specs.Sizes.{function_size, module_size}
+use Rattle.ir_mentions.specs.Mentions.{mentioned_places}
 use Rattle.ir_check.specs.declared.limits.Count.{Count}
 use Rattle.ir_check.specs.declared.limits.Count.TheVariants.{Functions, OneFunction, Instructions, Arguments, TypePlaces}
 use Rattle.ir_syntax.specs.declared.module.Module.{Module}

@@ -1,17 +1,18 @@
 -- Names that are defined twice (LangRef, "Identifiers").
 use Rattle.std.proofs.Common.{◌∙◌, sym, ap}
 use base.Stored.{Coded}
-use Rattle.ir_syntax.specs.Codes.{use_code, use_back, use_back_code}
+use Rattle.ir_ident.specs.Codes.{use_code, use_back, use_back_code}
 use Rattle.std.specs.Prelude.{ℕ, Bool, Option, None, Some, List, [], ◌∷◌, ◌++◌, map, if◌then◌else◌}
 use Rattle.std.specs.List.{flat_map, list_any}
-use Rattle.ir_syntax.specs.Names.{same_name}
+use Rattle.ir_ident.specs.Names.{same_name}
+use Rattle.ir_syntax.specs.Lines.{line_if}
 use Rattle.ir_syntax.specs.declared.block.Block.{Block}
 use Rattle.ir_syntax.specs.declared.function.Function.{Function}
 use Rattle.ir_syntax.specs.declared.function.Param.{Param}
 use Rattle.ir_syntax.specs.declared.instr.Instr.{Instr}
 use Rattle.ir_syntax.specs.declared.module.Module.{Module}
-use Rattle.ir_syntax.specs.declared.name.Name.{Name}
-use Rattle.ir_syntax.specs.declared.name.NameUse.{NameUse}
+use Rattle.ir_ident.specs.declared.name.Name.{Name}
+use Rattle.ir_ident.specs.declared.name.NameUse.{NameUse}
 use Rattle.ir_syntax.specs.declared.phi.Phi.{Phi}
 use Rattle.ir_syntax.specs.declared.type_def.TypeDef.{TypeDef}
 
@@ -57,9 +58,6 @@ local_names f = map param_name f.params ++ body_names f.blocks
 -- whether a name is among these
 abbrev pub is_among : List NameUse → Name → Bool
 is_among names name = list_any (λ n. same_name name n.name) names
-
-abbrev pub line_if : Bool → ℕ → List ℕ
-line_if fault line = if fault then line ∷ [] else []
 
 -- the lines of these names that are among those before them
 abbrev pub repeats_after : List NameUse → List NameUse → List ℕ

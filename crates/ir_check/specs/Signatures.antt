@@ -1,7 +1,7 @@
 -- Types of results and parameters that a declared function may have (LangRef, "Function Type").
 use Rattle.std.specs.Prelude.{Bool, true, false, ◌&&◌, ◌==◌, Option, None, Some, List, [], ◌∷◌, bytes_eq, codes, if◌then◌else◌}
 use Rattle.std.specs.List.{list_all}
-use Rattle.ir_syntax.specs.Names.{name_bytes}
+use Rattle.ir_ident.specs.Names.{name_bytes}
 use Rattle.ir_syntax.specs.Types.{TextTree, int, ptr}
 use Rattle.ir_syntax.specs.declared.function.Function.{Function}
 use Rattle.ir_syntax.specs.declared.function.Param.{Param}

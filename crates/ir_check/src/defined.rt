@@ -3,7 +3,8 @@ ghost use Rattle.std.specs.Prelude.{◌≡◌, ◌++◌, ◌∷◌, [], map, OnO
 ghost use Rattle.std.specs.List.{flat_map};
 ghost use Rattle.ir_check.specs.Repeated.{block_names, body_names, defined_at, function_name_at, instr_names, local_names, param_name, phi_name, type_name};
 
-use ir_syntax::{Block, Blocks, Function, Instr, Name, Param, Phi, TypeDef};
+use ir_ident::Name;
+use ir_syntax::{Block, Blocks, Function, Instr, Param, Phi, TypeDef};
 use std::alloc::AllocError;
 use std::marker::Model;
 
@@ -15,7 +16,7 @@ pub(crate) struct Defined<'a> {
 }
 
 impl<'a> Model for Defined<'a> {
-    ghost use Rattle.ir_syntax.specs.declared.name.NameUse.{NameUse};
+    ghost use Rattle.ir_ident.specs.declared.name.NameUse.{NameUse};
     ghost use Rattle.ir_check.specs.Repeated.{defined_code};
 
     ghost Value = { NameUse };

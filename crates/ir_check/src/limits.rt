@@ -1,14 +1,14 @@
 //! The limits on what a module has.
 ghost use Rattle.std.specs.Prelude.{◌≡◌, IfOk, None, Option, Some, if◌then◌else◌, length, nat_lt};
 ghost use Rattle.std.specs.List.{filter, list_any, sum_by};
-ghost use Rattle.ir_check.specs.Definitions.{defined_functions, has_body};
-ghost use Rattle.ir_check.specs.KeptSizes.{function_size};
+ghost use Rattle.ir_syntax.specs.Definitions.{defined_functions, has_body};
+ghost use Rattle.ir_cfg.specs.Sizes.{function_size};
 ghost use Rattle.ir_check.specs.Limits.{exceeded_limit};
-ghost use Rattle.ir_check.specs.Mentions.{mentioned_places};
+ghost use Rattle.ir_mentions.specs.Mentions.{mentioned_places};
 ghost use Rattle.ir_check.specs.declared.limits.Count.TheVariants.{Instructions, OneFunction};
 
-use crate::kept_sizes::{function_sizes, total_size};
-use crate::mentions::mentioned_places;
+use ir_cfg::{function_sizes, total_size};
+use ir_mentions::mentioned_places;
 use ir_syntax::{Function, Module};
 use std::alloc::{AllocError, Global};
 

@@ -1,14 +1,15 @@
 //! Names that are defined twice (LangRef, "Identifiers").
 ghost use Rattle.std.specs.Prelude.{◌≡◌, ◌++◌, ◌||◌, IfOk, OnOk, map};
 ghost use Rattle.std.specs.List.{flat_map};
-ghost use Rattle.ir_syntax.specs.NameMaps.{has_name};
-ghost use Rattle.ir_syntax.specs.Names.{same_name};
-ghost use Rattle.ir_syntax.specs.declared.name.Name.{Name};
-ghost use Rattle.ir_check.specs.Repeated.{function_name_at, is_among, line_if, local_names, repeated_lines, repeats, type_name};
+ghost use Rattle.ir_ident.specs.NameMaps.{has_name};
+ghost use Rattle.ir_ident.specs.Names.{same_name};
+ghost use Rattle.ir_ident.specs.declared.name.Name.{Name};
+ghost use Rattle.ir_check.specs.Repeated.{function_name_at, is_among, local_names, repeated_lines, repeats, type_name};
+ghost use Rattle.ir_syntax.specs.Lines.{line_if};
 
 use crate::defined::{Defined, push_functions, push_locals, push_types};
-use crate::lines::push_line_if;
-use ir_syntax::{Function, Module, Name, NameSet, TypeDef};
+use ir_ident::{Name, NameSet};
+use ir_syntax::{Function, Module, TypeDef, push_line_if};
 use std::alloc::{AllocError, Global};
 
 /// The lines, from 1, of the items of a module that define a name for the second time: a function's, a type's,

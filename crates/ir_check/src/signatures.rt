@@ -1,10 +1,11 @@
 //! Types of results and parameters that a declared function may have (LangRef, "Function Type").
 ghost use Rattle.std.specs.Prelude.{◌≡◌, bytes_eq, codes};
 ghost use Rattle.std.specs.List.{list_all};
-ghost use Rattle.ir_syntax.specs.Names.{name_bytes};
+ghost use Rattle.ir_ident.specs.Names.{name_bytes};
 ghost use Rattle.ir_check.specs.Signatures.{fits_host, is_declarable, is_i32, is_scalar, is_valued, is_void, takes_i32, takes_none};
 
-use ir_syntax::{Function, Name, Param, TyText, TypeTree};
+use ir_ident::Name;
+use ir_syntax::{Function, Param, TyText, TypeTree};
 
 fn is_scalar(ty: &TyText) -> bool
     ensures { result ≡ is_scalar ty.now }

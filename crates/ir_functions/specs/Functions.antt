@@ -11,8 +11,8 @@ use Rattle.ir_rules.specs.Rules.{Rule, ◌▷◌, ◌◁◌, dropped, each, made
 use Rattle.ir_attributes.specs.Attributes.{attachment}
 use Rattle.ir_body.specs.Blocks.{block_starts, blocks}
 use Rattle.ir_globals.specs.Heads.{linkage, visibility}
-use Rattle.ir_names.specs.declared.entity.Entity.{Entity}
-use Rattle.ir_names.specs.declared.entity.Entity.TheVariants as entity
+use Rattle.ir_entities.specs.declared.entity.Entity.{Entity}
+use Rattle.ir_entities.specs.declared.entity.Entity.TheVariants as entity
 use Rattle.ir_functions.specs.declared.opening.Opening.{Opening}
 use Rattle.ir_prototypes.specs.Prototypes.{Signature, declared_ends, declared_signatures, defined_ends, defined_signatures, params, signature_of}
 

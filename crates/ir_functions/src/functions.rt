@@ -1,7 +1,7 @@
 //! Functions, declared and defined (LangRef, "Functions").
 ghost use Rattle.std.specs.Prelude.{◌≡◌, Some, None, if◌then◌else◌};
 ghost use Rattle.ir_words.specs.declared.class.Class.TheVariants.{External};
-ghost use Rattle.ir_rules.specs.Reading.{Gives};
+ghost use Rattle.ir_rules.specs.Reading.{Gives, GivesExactly};
 ghost use Rattle.ir_rules.specs.Rules.{has, option, word};
 ghost use Rattle.ir_body.specs.Blocks.{block_starts};
 ghost use Rattle.ir_functions.specs.BlockWords.{computation_words, instruction_words, other_starts};
@@ -10,15 +10,16 @@ ghost use Rattle.ir_prototypes.specs.Prototypes.{signature_of};
 
 use crate::opening::Opening;
 use ir_body::read_block;
+use ir_entities::Entity;
 use ir_globals::read_linkage;
-use ir_names::Entity;
+use ir_ident::NameUse;
 use ir_prototypes::{
     Prototype, read_declared_signature, read_defined_signature, skip_declared_ends,
     skip_defined_ends, skip_metadata,
 };
 use ir_rules::{End, word};
-use ir_syntax::{Block, Blocks, Function, Linkage, NameUse};
-use ir_words::{Class, Rest};
+use ir_syntax::{Block, Blocks, Function, Linkage};
+use ir_words::{Class, Cursor};
 use std::alloc::Global;
 
 /// The function on a line; without blocks it is declared.
@@ -53,8 +54,8 @@ fn function_of(
 }
 
 /// Reads `external`, where it stands: whether it does.
-fn read_external<'t>(rest: Rest<'t>) -> Result<(bool, Rest<'t>), End>
-    ensures { Gives (λ x. (if x.0 then Some tt else None, x.1)) result ((option (word External)).read rest.entry) }
+fn read_external<'t>(rest: Cursor<'t>) -> Result<(bool, Cursor<'t>), End>
+    ensures { GivesExactly (λ x. (if x.0 then Some tt else None, x.1)) result ((option (word External)).read rest.entry) }
 {
     match rest.first() {
         Class::External => Ok((true, rest.skip())),
@@ -68,7 +69,7 @@ fn read_external<'t>(rest: Rest<'t>) -> Result<(bool, Rest<'t>), End>
 ///
 /// `Bad` at the first token that can't stand there, `NoMemory` if memory runs out.
 #[tactic(auto, unfolding(crate::specs::Functions::declaration_forms))]
-pub fn read_declaration<'t>(alloc: Global, rest: Rest<'t>) -> Result<(Entity, Rest<'t>), End>
+pub fn read_declaration<'t>(alloc: Global, rest: Cursor<'t>) -> Result<(Entity, Cursor<'t>), End>
     ensures { Gives (λ x. (Some x.0, x.1)) result (declarations.read rest.entry) }
 {
     let line = rest.line();
@@ -153,7 +154,7 @@ fn begins_block(class: Class) -> bool
 }
 
 /// Reads the blocks of a function.
-fn read_blocks<'t>(alloc: Global, rest: Rest<'t>) -> Result<(Vec<Block>, Rest<'t>), End>
+fn read_blocks<'t>(alloc: Global, rest: Cursor<'t>) -> Result<(Vec<Block>, Cursor<'t>), End>
     ensures { Gives (λ x. (x.0.items, x.1)) result (block_lists.read rest.entry) }
 {
     let mut list = Vec::new(alloc);
@@ -170,7 +171,7 @@ fn read_blocks<'t>(alloc: Global, rest: Rest<'t>) -> Result<(Vec<Block>, Rest<'t
 
 /// Reads the blocks of a function, and the bracket behind them.
 #[tactic(auto, unfolding(crate::specs::Functions::closed_block_forms))]
-fn read_closed_blocks<'t>(alloc: Global, rest: Rest<'t>) -> Result<(Blocks, Rest<'t>), End>
+fn read_closed_blocks<'t>(alloc: Global, rest: Cursor<'t>) -> Result<(Blocks, Cursor<'t>), End>
     ensures { Gives (λ x. x) result (closed_blocks.read rest.entry) }
 {
     let (list, rest) = read_blocks(alloc, rest)?;
@@ -184,7 +185,7 @@ fn read_closed_blocks<'t>(alloc: Global, rest: Rest<'t>) -> Result<(Blocks, Rest
 ///
 /// `Bad` at the first token that can't stand there, `NoMemory` if memory runs out.
 #[tactic(auto, unfolding(crate::specs::Functions::opening_forms))]
-pub fn read_opening<'t>(alloc: Global, rest: Rest<'t>) -> Result<(Opening, Rest<'t>), End>
+pub fn read_opening<'t>(alloc: Global, rest: Cursor<'t>) -> Result<(Opening, Cursor<'t>), End>
     ensures { Gives (λ x. (front_of x.0, x.1)) result (openings.read rest.entry) }
 {
     let line = rest.line();
@@ -207,7 +208,7 @@ pub fn read_opening<'t>(alloc: Global, rest: Rest<'t>) -> Result<(Opening, Rest<
 ///
 /// `Bad` at the first token that can't stand there, `NoMemory` if memory runs out.
 #[tactic(auto, unfolding(crate::specs::Functions::definition_forms))]
-pub fn read_definition<'t>(alloc: Global, rest: Rest<'t>) -> Result<(Entity, Rest<'t>), End>
+pub fn read_definition<'t>(alloc: Global, rest: Cursor<'t>) -> Result<(Entity, Cursor<'t>), End>
     ensures { Gives (λ x. (Some x.0, x.1)) result (definitions.read rest.entry) }
 {
     let (opening, rest) = read_opening(alloc, rest)?;

@@ -3,7 +3,7 @@ use Rattle.std.proofs.Common.{ℕ, true, false, List, Some, None, refl}
 use Rattle.std.specs.Prelude.{Option, fold}
 use Rattle.ir_syntax.specs.declared.alias.AliasBase.TheVariants as base
 use Rattle.ir_syntax.specs.declared.linkage.Linkage.TheVariants as link
-use Rattle.ir_syntax.specs.declared.name.NameUse.{NameUse}
+use Rattle.ir_ident.specs.declared.name.NameUse.{NameUse}
 use Rattle.ir_syntax.specs.declared.operand.ConstantGep.{ConstantGep}
 use Rattle.ir_words.specs.declared.class.Class.TheVariants as class
 use Rattle.ir_rules.proofs.Chains.{each_lawful}
@@ -15,7 +15,7 @@ use Rattle.ir_attributes.proofs.AttributeLaws.{alignments_law, attachment_law}
 use Rattle.ir_calls.proofs.CallLaws.{parameter_types_law}
 use Rattle.ir_types.proofs.TypeLaws.{result_types_law, types_law}
 use Rattle.ir_values.proofs.ValueLaws.{constant_geps_law, global_uses_law}
-use Rattle.ir_globals.specs.Variables.{alias_base_forms, alias_bases, alias_forms, alias_of, aliases, base_addresses, declared_forms, declared_of, declared_variables, entity_of_global, external_shown, global_entities, global_entity_forms, is_constant, local_shown, shown, shown_forms, shown_of, variable_forms, variable_of, variable_tail, variable_tail_forms, variable_tails, variable_tails_forms, variables}
+use Rattle.ir_globals.specs.Variables.{alias_base_forms, alias_bases, alias_forms, alias_of, aliases, base_addresses, declared_forms, declared_of, declared_variables, entity_of_global, external_definitions, global_entities, global_entity_forms, is_constant, local_definitions, definitions, definition_forms, definition_of, variable_forms, variable_of, variable_tail, variable_tail_forms, variable_tails, variable_tails_forms, variables}
 use Rattle.ir_globals.proofs.HeadLaws.{local_linkage_law, visibility_law}
 use Rattle.ir_inits.proofs.InitialiserLaws.{inits_law}
 
@@ -59,19 +59,19 @@ aliases_law =
     within_lawful _ _ _ _ (made_lawful alias_of _ (before_law class.Alias _ refl refl (seq_lawful _ _ result_types_law
     (seq_lawful _ _ (option_lawful _ parameter_types_law refl) (before_law class.Comma _ refl refl alias_bases_law) refl) refl))) refl refl refl
 
-external_shown_law : Lawful external_shown
-external_shown_law =
-    made_lawful shown_of _ (seq_lawful _ _ (means_law class.External link.External refl refl) (seq_lawful _ _ visibility_law declared_variables_law refl) refl)
+external_definitions_law : Lawful external_definitions
+external_definitions_law =
+    made_lawful definition_of _ (seq_lawful _ _ (means_law class.External link.External refl refl) (seq_lawful _ _ visibility_law declared_variables_law refl) refl)
 
-local_shown_law : Lawful local_shown
-local_shown_law =
-    made_lawful shown_of _ (seq_lawful _ _ local_linkage_law (seq_lawful _ _ visibility_law (either_lawful _ _ variables_law aliases_law refl refl) refl) refl)
+local_definitions_law : Lawful local_definitions
+local_definitions_law =
+    made_lawful definition_of _ (seq_lawful _ _ local_linkage_law (seq_lawful _ _ visibility_law (either_lawful _ _ variables_law aliases_law refl refl) refl) refl)
 
-shown_law : Lawful shown
-unfolding shown_forms
-shown_law = within_lawful _ _ _ _ (either_lawful _ _ external_shown_law local_shown_law refl refl) refl refl refl
+definition_law : Lawful definitions
+unfolding definition_forms
+definition_law = within_lawful _ _ _ _ (either_lawful _ _ external_definitions_law local_definitions_law refl refl) refl refl refl
 
 pub global_entities_law : Lawful global_entities
 unfolding global_entity_forms
 global_entities_law =
-    within_lawful _ _ _ _ (made_lawful entity_of_global _ (seq_lawful _ _ global_uses_law (before_law class.Equal _ refl refl shown_law) refl)) refl refl refl
+    within_lawful _ _ _ _ (made_lawful entity_of_global _ (seq_lawful _ _ global_uses_law (before_law class.Equal _ refl refl definition_law) refl)) refl refl refl

@@ -7,8 +7,8 @@ use Rattle.ir_syntax.specs.declared.alias.AliasBase.TheVariants as base
 use Rattle.ir_syntax.specs.declared.linkage.Linkage.{Linkage}
 use Rattle.ir_syntax.specs.declared.linkage.Linkage.TheVariants as link
 use Rattle.ir_syntax.specs.declared.linkage.Visibility.{Visibility}
-use Rattle.ir_syntax.specs.declared.name.Name.{Name}
-use Rattle.ir_syntax.specs.declared.name.NameUse.{NameUse}
+use Rattle.ir_ident.specs.declared.name.Name.{Name}
+use Rattle.ir_ident.specs.declared.name.NameUse.{NameUse}
 use Rattle.ir_syntax.specs.declared.operand.ConstantGep.{ConstantGep}
 use Rattle.ir_words.specs.declared.class.Class.TheVariants as class
 use Rattle.ir_rules.specs.Leaves.{means}
@@ -21,9 +21,9 @@ use Rattle.ir_globals.specs.Heads.{linkage, local_linkage, mark_words, visibilit
 use Rattle.ir_inits.specs.Initialisers.{inits}
 use Rattle.ir_globals.specs.declared.defined.Defined.{Defined}
 use Rattle.ir_globals.specs.declared.defined.Defined.TheVariants.{Variable, SecondName}
-use Rattle.ir_globals.specs.declared.defined.Shown.{Shown}
-use Rattle.ir_names.specs.declared.entity.Entity.{Entity}
-use Rattle.ir_names.specs.declared.entity.Entity.TheVariants as entity
+use Rattle.ir_globals.specs.declared.defined.GlobalDefinition.{GlobalDefinition}
+use Rattle.ir_entities.specs.declared.entity.Entity.{Entity}
+use Rattle.ir_entities.specs.declared.entity.Entity.TheVariants as entity
 
 -- , "align" INT | , META META | ATTR
 unfoldable pub variable_tail_forms : Rule (Option ℕ)
@@ -93,23 +93,23 @@ aliases = within (class.Alias ∷ []) [] false alias_forms
 abbrev pub defined_here : Rule Defined
 defined_here = either variables aliases
 
-abbrev pub shown_of : Linkage × (Visibility × Defined) → Shown
-shown_of z = record { linkage = z.0; visibility = z.1.0; defined = z.1.1 }
+abbrev pub definition_of : Linkage × (Visibility × Defined) → GlobalDefinition
+definition_of z = record { linkage = z.0; visibility = z.1.0; defined = z.1.1 }
 
 -- "external" pre* ("global"|"constant") type gtail*
-abbrev pub external_shown : Rule Shown
-external_shown = made shown_of (seq (means class.External link.External) (seq visibility declared_variables))
+abbrev pub external_definitions : Rule GlobalDefinition
+external_definitions = made definition_of (seq (means class.External link.External) (seq visibility declared_variables))
 
 -- ["private"|"internal"] pre* (("global"|"constant") type init gtail* | "alias" ..)
-abbrev pub local_shown : Rule Shown
-local_shown = made shown_of (seq local_linkage (seq visibility defined_here))
+abbrev pub local_definitions : Rule GlobalDefinition
+local_definitions = made definition_of (seq local_linkage (seq visibility defined_here))
 
 -- linkage, visibility, and what they are of
-unfoldable pub shown_forms : Rule Shown
-shown_forms = either external_shown local_shown
+unfoldable pub definition_forms : Rule GlobalDefinition
+definition_forms = either external_definitions local_definitions
 
-abbrev pub shown : Rule Shown
-shown = within (class.External ∷ class.Private ∷ class.Internal ∷ class.GlobalWord ∷ class.Constant ∷ class.Alias ∷ mark_words) (class.Comma ∷ class.Attr ∷ []) false shown_forms
+abbrev pub definitions : Rule GlobalDefinition
+definitions = within (class.External ∷ class.Private ∷ class.Internal ∷ class.GlobalWord ∷ class.Constant ∷ class.Alias ∷ mark_words) (class.Comma ∷ class.Attr ∷ []) false definition_forms
 
 -- the item on a line, of a name
 abbrev pub defined_entity : ℕ → Name → Linkage → Visibility → Defined → Entity
@@ -133,15 +133,15 @@ defined_entity line name linkage seen (SecondName result params base) = entity.A
   base = base;
 })
 
-abbrev pub shown_entity : NameUse → Shown → Entity
-shown_entity name shown = defined_entity name.line name.name shown.linkage shown.visibility shown.defined
+abbrev pub global_entity : NameUse → GlobalDefinition → Entity
+global_entity name definitions = defined_entity name.line name.name definitions.linkage definitions.visibility definitions.defined
 
-abbrev pub entity_of_global : NameUse × Shown → Option Entity
-entity_of_global z = Some (shown_entity z.0 z.1)
+abbrev pub entity_of_global : NameUse × GlobalDefinition → Option Entity
+entity_of_global z = Some (global_entity z.0 z.1)
 
 -- GLOBAL = ..
 unfoldable pub global_entity_forms : Rule (Option Entity)
-global_entity_forms = made entity_of_global (seq global_uses (class.Equal ▷ shown))
+global_entity_forms = made entity_of_global (seq global_uses (class.Equal ▷ definitions))
 
 abbrev pub global_entities : Rule (Option Entity)
 global_entities = within (class.Global ∷ class.MetadataIntrinsic ∷ class.DroppedIntrinsic ∷ class.Intrinsic ∷ []) (class.Comma ∷ class.Attr ∷ []) false global_entity_forms

@@ -1,10 +1,11 @@
 //! Global variables and aliases as the text defines them, before they have names (LangRef, "Global
 //! Variables" and "Aliases").
 ghost use Rattle.std.specs.Prelude.{◌≡◌};
-ghost use Rattle.ir_globals.specs.Variables.{shown_entity};
+ghost use Rattle.ir_globals.specs.Variables.{global_entity};
 
-use ir_names::Entity;
-use ir_syntax::{Alias, AliasBase, Global, Init, Linkage, NameUse, TyText, TypeTexts, Visibility};
+use ir_entities::Entity;
+use ir_ident::NameUse;
+use ir_syntax::{Alias, AliasBase, Global, Init, Linkage, TyText, TypeTexts, Visibility};
 
 /// What follows the name of a global variable or an alias.
 #[derive(Drop)]
@@ -17,7 +18,7 @@ pub(crate) enum Defined {
 
 /// What is defined, and who sees it.
 #[derive(Drop)]
-pub(crate) struct Shown {
+pub(crate) struct GlobalDefinition {
     /// Who sees it.
     pub(crate) linkage: Linkage,
     /// How it is seen from outside.
@@ -27,15 +28,15 @@ pub(crate) struct Shown {
 }
 
 /// The item of this name.
-pub(crate) fn entity_of(name: NameUse, shown: Shown) -> Entity
-    ensures { result ≡ shown_entity name shown }
+pub(crate) fn entity_of(name: NameUse, definition: GlobalDefinition) -> Entity
+    ensures { result ≡ global_entity name definition }
 {
     let NameUse { line, name } = name;
-    let Shown {
+    let GlobalDefinition {
         linkage,
         visibility,
         defined,
-    } = shown;
+    } = definition;
     match defined {
         Defined::Variable(constant, ty, init, align) => Entity::Global(Global {
             line,

@@ -2,13 +2,13 @@
 //! "Linkage Types" and "Visibility Styles").
 ghost use Rattle.std.specs.Prelude.{◌≡◌};
 ghost use Rattle.ir_globals.specs.Heads.{addresses, later_seen, linkage, local_linkage, mark_words, marks, styles, visibility};
-ghost use Rattle.ir_rules.specs.Reading.{Gives};
+ghost use Rattle.ir_rules.specs.Reading.{GivesExactly};
 ghost use Rattle.ir_rules.specs.Rules.{has};
 
 use ir_calls::skip_convention;
 use ir_rules::{End, bad};
 use ir_syntax::{Linkage, Visibility};
-use ir_words::{Class, Rest};
+use ir_words::{Class, Cursor};
 
 /// Reads `private` or `internal`, or nothing.
 ///
@@ -16,8 +16,8 @@ use ir_words::{Class, Rest};
 ///
 /// None: without either word it is seen outside.
 #[tactic(auto, unfolding(crate::specs::Heads::local_linkage_forms))]
-pub(crate) fn read_local_linkage<'t>(rest: Rest<'t>) -> Result<(Linkage, Rest<'t>), End>
-    ensures { Gives (λ x. x) result (local_linkage.read rest.entry) }
+pub(crate) fn read_local_linkage<'t>(rest: Cursor<'t>) -> Result<(Linkage, Cursor<'t>), End>
+    ensures { GivesExactly (λ x. x) result (local_linkage.read rest.entry) }
 {
     match rest.first() {
         Class::Private | Class::Internal => Ok((Linkage::Internal, rest.skip())),
@@ -31,8 +31,8 @@ pub(crate) fn read_local_linkage<'t>(rest: Rest<'t>) -> Result<(Linkage, Rest<'t
 ///
 /// None: without any of the words it is seen outside.
 #[tactic(auto, unfolding(crate::specs::Heads::linkage_forms))]
-pub fn read_linkage<'t>(rest: Rest<'t>) -> Result<(Linkage, Rest<'t>), End>
-    ensures { Gives (λ x. x) result (linkage.read rest.entry) }
+pub fn read_linkage<'t>(rest: Cursor<'t>) -> Result<(Linkage, Cursor<'t>), End>
+    ensures { GivesExactly (λ x. x) result (linkage.read rest.entry) }
 {
     match rest.first() {
         Class::External => Ok((Linkage::External, rest.skip())),
@@ -42,8 +42,8 @@ pub fn read_linkage<'t>(rest: Rest<'t>) -> Result<(Linkage, Rest<'t>), End>
 
 /// Reads a visibility.
 #[tactic(auto, unfolding(crate::specs::Heads::style_forms))]
-fn read_style<'t>(rest: Rest<'t>) -> Result<(Visibility, Rest<'t>), End>
-    ensures { Gives (λ x. x) result (styles.read rest.entry) }
+fn read_style<'t>(rest: Cursor<'t>) -> Result<(Visibility, Cursor<'t>), End>
+    ensures { GivesExactly (λ x. x) result (styles.read rest.entry) }
 {
     let style = match rest.first() {
         Class::Default => Visibility::Default,
@@ -56,8 +56,8 @@ fn read_style<'t>(rest: Rest<'t>) -> Result<(Visibility, Rest<'t>), End>
 
 /// Reads a word that says how the address may be used.
 #[tactic(auto, unfolding(crate::specs::Heads::address_forms))]
-fn read_address_mark<'t>(rest: Rest<'t>) -> Result<Rest<'t>, End>
-    ensures { Gives (λ rest. (tt, rest)) result (addresses.read rest.entry) }
+fn read_address_mark<'t>(rest: Cursor<'t>) -> Result<Cursor<'t>, End>
+    ensures { GivesExactly (λ rest. (tt, rest)) result (addresses.read rest.entry) }
 {
     match rest.first() {
         Class::DsoLocal
@@ -71,8 +71,8 @@ fn read_address_mark<'t>(rest: Rest<'t>) -> Result<Rest<'t>, End>
 
 /// Reads one word of those that may stand in any number; only a visibility says something.
 #[tactic(auto, unfolding(crate::specs::Heads::mark_forms))]
-fn read_mark<'t>(rest: Rest<'t>) -> Result<(Option<Visibility>, Rest<'t>), End>
-    ensures { Gives (λ x. x) result (marks.read rest.entry) }
+fn read_mark<'t>(rest: Cursor<'t>) -> Result<(Option<Visibility>, Cursor<'t>), End>
+    ensures { GivesExactly (λ x. x) result (marks.read rest.entry) }
 {
     match rest.first() {
         Class::Default | Class::Hidden | Class::Protected => {
@@ -121,8 +121,8 @@ fn later_seen(before: Visibility, found: Option<Visibility>) -> Visibility
 ///
 /// None: at the first token that is none of the words it ends.
 #[tactic(auto, unfolding(crate::specs::Heads::visibility_forms))]
-pub fn read_visibility<'t>(rest: Rest<'t>) -> Result<(Visibility, Rest<'t>), End>
-    ensures { Gives (λ x. x) result (visibility.read rest.entry) }
+pub fn read_visibility<'t>(rest: Cursor<'t>) -> Result<(Visibility, Cursor<'t>), End>
+    ensures { GivesExactly (λ x. x) result (visibility.read rest.entry) }
 {
     let mut rest = rest;
     let mut seen = Visibility::Default;

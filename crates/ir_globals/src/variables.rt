@@ -1,27 +1,27 @@
 //! Global variables and aliases (LangRef, "Global Variables" and "Aliases").
 ghost use Rattle.std.specs.Prelude.{◌≡◌, [], ◌∷◌};
-ghost use Rattle.ir_globals.specs.Variables.{alias_bases, aliases, base_addresses, declared_variables, defined_here, external_shown, global_entities, is_constant, local_shown, pointer_bases, shown, variable_tail, variable_tails, variables};
-ghost use Rattle.ir_rules.specs.Reading.{Gives};
+ghost use Rattle.ir_globals.specs.Variables.{alias_bases, aliases, base_addresses, declared_variables, defined_here, external_definitions, global_entities, is_constant, local_definitions, pointer_bases, definitions, variable_tail, variable_tails, variables};
+ghost use Rattle.ir_rules.specs.Reading.{Gives, GivesExactly};
 ghost use Rattle.ir_rules.specs.Rules.{has};
 ghost use Rattle.ir_words.specs.declared.class.Class.TheVariants as Classes;
 
-use crate::defined::{Defined, Shown, entity_of};
+use crate::defined::{Defined, GlobalDefinition, entity_of};
 use crate::heads::{read_local_linkage, read_visibility};
 use ir_attributes::{later, read_alignment, read_attachment};
 use ir_calls::read_parameter_types;
+use ir_entities::Entity;
 use ir_inits::read_init;
-use ir_names::Entity;
 use ir_rules::{End, word};
 use ir_syntax::{AliasBase, Linkage};
 use ir_types::{read_result_type, read_type};
 use ir_values::{read_constant_gep, read_global_use};
-use ir_words::{Class, Rest};
+use ir_words::{Class, Cursor};
 use std::alloc::Global;
 
 /// Reads one alignment, attachment or group of attributes after a variable; only an alignment is kept.
 #[tactic(auto, unfolding(crate::specs::Variables::variable_tail_forms))]
-fn read_variable_tail<'t>(rest: Rest<'t>) -> Result<(Option<u64>, Rest<'t>), End>
-    ensures { Gives (λ x. x) result (variable_tail.read rest.entry) }
+fn read_variable_tail<'t>(rest: Cursor<'t>) -> Result<(Option<u64>, Cursor<'t>), End>
+    ensures { GivesExactly (λ x. x) result (variable_tail.read rest.entry) }
 {
     match rest.first() {
         Class::Comma => {
@@ -47,8 +47,8 @@ fn begins_tail(class: Class) -> bool
 
 /// Reads those in any number: the last alignment among them.
 #[tactic(auto, unfolding(crate::specs::Variables::variable_tails_forms))]
-fn read_variable_tails<'t>(rest: Rest<'t>) -> Result<(Option<u64>, Rest<'t>), End>
-    ensures { Gives (λ x. x) result (variable_tails.read rest.entry) }
+fn read_variable_tails<'t>(rest: Cursor<'t>) -> Result<(Option<u64>, Cursor<'t>), End>
+    ensures { GivesExactly (λ x. x) result (variable_tails.read rest.entry) }
 {
     let mut rest = rest;
     let mut align = None;
@@ -61,8 +61,8 @@ fn read_variable_tails<'t>(rest: Rest<'t>) -> Result<(Option<u64>, Rest<'t>), En
 }
 
 /// Reads `global` or `constant`: whether it is the second.
-fn read_is_constant<'t>(rest: Rest<'t>) -> Result<(bool, Rest<'t>), End>
-    ensures { Gives (λ x. x) result (is_constant.read rest.entry) }
+fn read_is_constant<'t>(rest: Cursor<'t>) -> Result<(bool, Cursor<'t>), End>
+    ensures { GivesExactly (λ x. x) result (is_constant.read rest.entry) }
 {
     match rest.first() {
         Class::GlobalWord => Ok((false, rest.skip())),
@@ -72,7 +72,7 @@ fn read_is_constant<'t>(rest: Rest<'t>) -> Result<(bool, Rest<'t>), End>
 
 /// Reads a variable without an initialiser.
 #[tactic(auto, unfolding(crate::specs::Variables::declared_forms))]
-fn read_declared_variable<'t>(alloc: Global, rest: Rest<'t>) -> Result<(Defined, Rest<'t>), End>
+fn read_declared_variable<'t>(alloc: Global, rest: Cursor<'t>) -> Result<(Defined, Cursor<'t>), End>
     ensures { Gives (λ x. x) result (declared_variables.read rest.entry) }
 {
     let (constant, rest) = read_is_constant(rest)?;
@@ -83,7 +83,7 @@ fn read_declared_variable<'t>(alloc: Global, rest: Rest<'t>) -> Result<(Defined,
 
 /// Reads a variable with its initialiser.
 #[tactic(auto, unfolding(crate::specs::Variables::variable_forms))]
-fn read_variable<'t>(alloc: Global, rest: Rest<'t>) -> Result<(Defined, Rest<'t>), End>
+fn read_variable<'t>(alloc: Global, rest: Cursor<'t>) -> Result<(Defined, Cursor<'t>), End>
     ensures { Gives (λ x. x) result (variables.read rest.entry) }
 {
     let (constant, rest) = read_is_constant(rest)?;
@@ -94,7 +94,7 @@ fn read_variable<'t>(alloc: Global, rest: Rest<'t>) -> Result<(Defined, Rest<'t>
 }
 
 /// Reads an address at constant offsets from a global name.
-fn read_base_address<'t>(alloc: Global, rest: Rest<'t>) -> Result<(AliasBase, Rest<'t>), End>
+fn read_base_address<'t>(alloc: Global, rest: Cursor<'t>) -> Result<(AliasBase, Cursor<'t>), End>
     ensures { Gives (λ x. x) result (base_addresses.read rest.entry) }
 {
     let (gep, rest) = read_constant_gep(alloc, rest, 64)?;
@@ -102,7 +102,7 @@ fn read_base_address<'t>(alloc: Global, rest: Rest<'t>) -> Result<(AliasBase, Re
 }
 
 /// Reads what an alias stands for behind `ptr`.
-fn read_pointer_base<'t>(alloc: Global, rest: Rest<'t>) -> Result<(AliasBase, Rest<'t>), End>
+fn read_pointer_base<'t>(alloc: Global, rest: Cursor<'t>) -> Result<(AliasBase, Cursor<'t>), End>
     ensures { Gives (λ x. x) result (pointer_bases.read rest.entry) }
 {
     match rest.first() {
@@ -116,7 +116,7 @@ fn read_pointer_base<'t>(alloc: Global, rest: Rest<'t>) -> Result<(AliasBase, Re
 
 /// Reads what an alias stands for: a global name, or an address at constant offsets from one.
 #[tactic(auto, unfolding(crate::specs::Variables::alias_base_forms))]
-fn read_alias_base<'t>(alloc: Global, rest: Rest<'t>) -> Result<(AliasBase, Rest<'t>), End>
+fn read_alias_base<'t>(alloc: Global, rest: Cursor<'t>) -> Result<(AliasBase, Cursor<'t>), End>
     ensures { Gives (λ x. x) result (alias_bases.read rest.entry) }
 {
     match rest.first() {
@@ -127,7 +127,7 @@ fn read_alias_base<'t>(alloc: Global, rest: Rest<'t>) -> Result<(AliasBase, Rest
 
 /// Reads `alias`, a type, and what the alias stands for.
 #[tactic(auto, unfolding(crate::specs::Variables::alias_forms))]
-fn read_alias<'t>(alloc: Global, rest: Rest<'t>) -> Result<(Defined, Rest<'t>), End>
+fn read_alias<'t>(alloc: Global, rest: Cursor<'t>) -> Result<(Defined, Cursor<'t>), End>
     ensures { Gives (λ x. x) result (aliases.read rest.entry) }
 {
     let rest = word(rest, Class::Alias)?;
@@ -139,7 +139,7 @@ fn read_alias<'t>(alloc: Global, rest: Rest<'t>) -> Result<(Defined, Rest<'t>), 
 }
 
 /// Reads a variable with its initialiser, or an alias.
-fn read_defined<'t>(alloc: Global, rest: Rest<'t>) -> Result<(Defined, Rest<'t>), End>
+fn read_defined<'t>(alloc: Global, rest: Cursor<'t>) -> Result<(Defined, Cursor<'t>), End>
     ensures { Gives (λ x. x) result (defined_here.read rest.entry) }
 {
     match rest.first() {
@@ -149,43 +149,46 @@ fn read_defined<'t>(alloc: Global, rest: Rest<'t>) -> Result<(Defined, Rest<'t>)
 }
 
 /// Reads a variable that another module defines.
-fn read_external<'t>(alloc: Global, rest: Rest<'t>) -> Result<(Shown, Rest<'t>), End>
-    ensures { Gives (λ x. x) result (external_shown.read rest.entry) }
+fn read_external<'t>(alloc: Global, rest: Cursor<'t>) -> Result<(GlobalDefinition, Cursor<'t>), End>
+    ensures { Gives (λ x. x) result (external_definitions.read rest.entry) }
 {
     let rest = word(rest, Class::External)?;
     let (visibility, rest) = read_visibility(rest)?;
     let (defined, rest) = read_declared_variable(alloc, rest)?;
-    let shown = Shown {
+    let definition = GlobalDefinition {
         linkage: Linkage::External,
         visibility,
         defined,
     };
-    Ok((shown, rest))
+    Ok((definition, rest))
 }
 
 /// Reads a variable or an alias that this module defines.
-fn read_definition<'t>(alloc: Global, rest: Rest<'t>) -> Result<(Shown, Rest<'t>), End>
-    ensures { Gives (λ x. x) result (local_shown.read rest.entry) }
+fn read_local<'t>(alloc: Global, rest: Cursor<'t>) -> Result<(GlobalDefinition, Cursor<'t>), End>
+    ensures { Gives (λ x. x) result (local_definitions.read rest.entry) }
 {
     let (linkage, rest) = read_local_linkage(rest)?;
     let (visibility, rest) = read_visibility(rest)?;
     let (defined, rest) = read_defined(alloc, rest)?;
-    let shown = Shown {
+    let definition = GlobalDefinition {
         linkage,
         visibility,
         defined,
     };
-    Ok((shown, rest))
+    Ok((definition, rest))
 }
 
 /// Reads who sees a variable or an alias, and what it is.
-#[tactic(auto, unfolding(crate::specs::Variables::shown_forms))]
-fn read_shown<'t>(alloc: Global, rest: Rest<'t>) -> Result<(Shown, Rest<'t>), End>
-    ensures { Gives (λ x. x) result (shown.read rest.entry) }
+#[tactic(auto, unfolding(crate::specs::Variables::definition_forms))]
+fn read_definition<'t>(
+    alloc: Global,
+    rest: Cursor<'t>,
+) -> Result<(GlobalDefinition, Cursor<'t>), End>
+    ensures { Gives (λ x. x) result (definitions.read rest.entry) }
 {
     match rest.first() {
         Class::External => read_external(alloc, rest),
-        _ => read_definition(alloc, rest),
+        _ => read_local(alloc, rest),
     }
 }
 
@@ -197,12 +200,12 @@ fn read_shown<'t>(alloc: Global, rest: Rest<'t>) -> Result<(Shown, Rest<'t>), En
 #[tactic(auto, unfolding(crate::specs::Variables::global_entity_forms))]
 pub fn read_global_entity<'t>(
     alloc: Global,
-    rest: Rest<'t>,
-) -> Result<(Option<Entity>, Rest<'t>), End>
+    rest: Cursor<'t>,
+) -> Result<(Option<Entity>, Cursor<'t>), End>
     ensures { Gives (λ x. x) result (global_entities.read rest.entry) }
 {
     let (name, rest) = read_global_use(alloc, rest)?;
     let rest = word(rest, Class::Equal)?;
-    let (shown, rest) = read_shown(alloc, rest)?;
-    Ok((Some(entity_of(name, shown)), rest))
+    let (definition, rest) = read_definition(alloc, rest)?;
+    Ok((Some(entity_of(name, definition)), rest))
 }

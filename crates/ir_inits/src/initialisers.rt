@@ -8,7 +8,7 @@ use ir_rules::{End, bad, word};
 use ir_syntax::{Bytes, Init, Operand, TypedInit, TypedInits};
 use ir_types::{begins_type, read_type, unescaped};
 use ir_values::{read_constant_gep, read_scalar};
-use ir_words::{Class, Rest, front_of, rest_of};
+use ir_words::{Class, Cursor, front_of, rest_of};
 use std::alloc::{AllocError, Global};
 
 /// What stands between the quotes of `c"..."`, its escapes read.
@@ -20,7 +20,7 @@ fn characters_of(alloc: Global, text: &[u8]) -> Result<Bytes, AllocError>
 }
 
 /// Reads `c"..."`.
-fn read_characters<'t>(alloc: Global, rest: Rest<'t>) -> Result<(Bytes, Rest<'t>), End>
+fn read_characters<'t>(alloc: Global, rest: Cursor<'t>) -> Result<(Bytes, Cursor<'t>), End>
     ensures { Gives (λ x. x) result (character_arrays.read rest.entry) }
 {
     match rest.first() {
@@ -34,7 +34,7 @@ fn read_characters<'t>(alloc: Global, rest: Rest<'t>) -> Result<(Bytes, Rest<'t>
 
 /// Reads an initialiser without brackets.
 #[tactic(auto, unfolding(crate::specs::Initialisers::plain_forms))]
-fn read_plain_init<'t>(alloc: Global, rest: Rest<'t>) -> Result<(Init, Rest<'t>), End>
+fn read_plain_init<'t>(alloc: Global, rest: Cursor<'t>) -> Result<(Init, Cursor<'t>), End>
     ensures { Gives (λ x. x) result (plain_inits.read rest.entry) }
 {
     match rest.first() {
@@ -51,7 +51,7 @@ fn read_plain_init<'t>(alloc: Global, rest: Rest<'t>) -> Result<(Init, Rest<'t>)
 }
 
 /// Reads an address at constant offsets as an initialiser, its types of at most so many brackets.
-fn read_gep_init<'t>(alloc: Global, rest: Rest<'t>, depth: u8) -> Result<(Init, Rest<'t>), End>
+fn read_gep_init<'t>(alloc: Global, rest: Cursor<'t>, depth: u8) -> Result<(Init, Cursor<'t>), End>
     ensures { Gives (λ x. x) result ((gep_inits depth).read rest.entry) }
 {
     let (gep, rest) = read_constant_gep(alloc, rest, depth)?;
@@ -60,7 +60,7 @@ fn read_gep_init<'t>(alloc: Global, rest: Rest<'t>, depth: u8) -> Result<(Init, 
 
 /// Reads a type and an initialiser, each of at most so many brackets.
 #[cycle(inits)]
-fn read_part<'t>(alloc: Global, rest: Rest<'t>, depth: u8) -> Result<(TypedInit, Rest<'t>), End>
+fn read_part<'t>(alloc: Global, rest: Cursor<'t>, depth: u8) -> Result<(TypedInit, Cursor<'t>), End>
     ensures { Gives (λ x. x) result ((parts depth (inits depth)).read rest.entry) }
 {
     let (ty, rest) = read_type(alloc, rest, depth)?;
@@ -70,7 +70,11 @@ fn read_part<'t>(alloc: Global, rest: Rest<'t>, depth: u8) -> Result<(TypedInit,
 
 /// Reads parts behind commas, or none.
 #[cycle(inits)]
-fn read_parts<'t>(alloc: Global, rest: Rest<'t>, depth: u8) -> Result<(TypedInits, Rest<'t>), End>
+fn read_parts<'t>(
+    alloc: Global,
+    rest: Cursor<'t>,
+    depth: u8,
+) -> Result<(TypedInits, Cursor<'t>), End>
     ensures { Gives (λ x. x) result ((commas (parts depth (inits depth))).read rest.entry) }
 {
     let mut list = TypedInits::new();
@@ -90,7 +94,11 @@ fn read_parts<'t>(alloc: Global, rest: Rest<'t>, depth: u8) -> Result<(TypedInit
 
 /// Reads `[`, elements, and `]`.
 #[cycle(inits)]
-fn read_array_init<'t>(alloc: Global, rest: Rest<'t>, depth: u8) -> Result<(Init, Rest<'t>), End>
+fn read_array_init<'t>(
+    alloc: Global,
+    rest: Cursor<'t>,
+    depth: u8,
+) -> Result<(Init, Cursor<'t>), End>
     ensures { Gives (λ x. x) result ((array_inits (parts depth (inits depth))).read rest.entry) }
 {
     let rest = word(rest, Class::OpenSquare)?;
@@ -101,7 +109,11 @@ fn read_array_init<'t>(alloc: Global, rest: Rest<'t>, depth: u8) -> Result<(Init
 
 /// Reads `{`, fields, and `}`.
 #[cycle(inits)]
-fn read_struct_init<'t>(alloc: Global, rest: Rest<'t>, depth: u8) -> Result<(Init, Rest<'t>), End>
+fn read_struct_init<'t>(
+    alloc: Global,
+    rest: Cursor<'t>,
+    depth: u8,
+) -> Result<(Init, Cursor<'t>), End>
     ensures { Gives (λ x. x) result ((struct_inits (parts depth (inits depth))).read rest.entry) }
 {
     let rest = word(rest, Class::OpenCurly)?;
@@ -112,7 +124,11 @@ fn read_struct_init<'t>(alloc: Global, rest: Rest<'t>, depth: u8) -> Result<(Ini
 
 /// Reads `<{`, fields, and `}>`.
 #[cycle(inits)]
-fn read_packed_init<'t>(alloc: Global, rest: Rest<'t>, depth: u8) -> Result<(Init, Rest<'t>), End>
+fn read_packed_init<'t>(
+    alloc: Global,
+    rest: Cursor<'t>,
+    depth: u8,
+) -> Result<(Init, Cursor<'t>), End>
     ensures { Gives (λ x. x) result ((packed_inits (parts depth (inits depth))).read rest.entry) }
 {
     let rest = word(rest, Class::OpenPacked)?;
@@ -125,9 +141,9 @@ fn read_packed_init<'t>(alloc: Global, rest: Rest<'t>, depth: u8) -> Result<(Ini
 #[cycle(inits)]
 fn read_bracketed_init<'t>(
     alloc: Global,
-    rest: Rest<'t>,
+    rest: Cursor<'t>,
     depth: u8,
-) -> Result<(Init, Rest<'t>), End>
+) -> Result<(Init, Cursor<'t>), End>
     ensures { Gives (λ x. x) result ((bracketed_inits depth (inits depth)).read rest.entry) }
 {
     match rest.first() {
@@ -146,7 +162,7 @@ fn read_bracketed_init<'t>(
 /// `Bad` at the first token with which no initialiser begins, `NoMemory` if memory runs out.
 #[cycle(inits)]
 #[tactic(auto, unfolding(crate::specs::Initialisers::inits_in))]
-pub fn read_init<'t>(alloc: Global, rest: Rest<'t>, depth: u8) -> Result<(Init, Rest<'t>), End>
+pub fn read_init<'t>(alloc: Global, rest: Cursor<'t>, depth: u8) -> Result<(Init, Cursor<'t>), End>
     ensures { Gives (λ x. x) result ((inits depth).read rest.entry) }
 {
     if depth == 0 {

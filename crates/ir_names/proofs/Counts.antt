@@ -2,12 +2,12 @@
 use Rattle.std.proofs.Common.{◌≡◌, ◌∙◌, ℕ, ◌+◌, List, [], ◌∷◌, ◌++◌, length, filter, refl, ap, if◌then◌else◌}
 use Rattle.std.proofs.lemmas.List.{length-append}
 use Rattle.std.proofs.lemmas.List.Elements.{filter-append}
-use Rattle.ir_names.specs.declared.site.Sort.TheVariants.{Block}
+use Rattle.ir_entities.specs.declared.site.NameKind.TheVariants.{Block}
 use Rattle.ir_names.specs.Faults.{is_number, is_unnamed, unnamed_in}
-use Rattle.ir_names.specs.Items.{value_at}
-use Rattle.ir_names.specs.Sites.{Site}
-use Rattle.ir_syntax.specs.declared.name.Name.{Name}
-use Rattle.ir_syntax.specs.declared.name.Name.TheVariants.{Named, Unnamed, Implicit}
+use Rattle.ir_entities.specs.Items.{value_at}
+use Rattle.ir_entities.specs.Sites.{Site}
+use Rattle.ir_ident.specs.declared.name.Name.{Name}
+use Rattle.ir_ident.specs.declared.name.Name.TheVariants.{Named, Unnamed, Implicit}
 
 pub unnamed_append : (xs ys : List Site) → unnamed_in (xs ++ ys) ≡ unnamed_in xs + unnamed_in ys
 unnamed_append xs ys = ap (λ sites. length sites) (filter-append is_unnamed xs ys) ∙ length-append (filter is_unnamed xs) (filter is_unnamed ys)

@@ -3,12 +3,12 @@ use Rattle.std.proofs.Common.{◌≡◌, ◌∙◌, ℕ, ◌+◌, ◌<◌, ◌�
 use Rattle.std.proofs.lemmas.List.{append_assoc, append-nil}
 use Rattle.std.proofs.lemmas.List.Filters.{length-filter_more}
 use Rattle.ir_names.proofs.Lines.{least_append, take_more}
-use Rattle.ir_names.specs.declared.entity.Entity.{Entity}
-use Rattle.ir_names.specs.EntityUses.{entity_uses}
+use Rattle.ir_entities.specs.declared.entity.Entity.{Entity}
+use Rattle.ir_entities.specs.EntityUses.{entity_uses}
 use Rattle.ir_names.specs.Faults.{is_counted, is_other, is_unnamed, unnamed_in, line_if, number_fault, number_faults, number_faults_after, is_defined, use_faults, known_in, entity_faults, fault_lines}
-use Rattle.ir_names.specs.Items.{entity_items, entity_sites}
+use Rattle.ir_entities.specs.Items.{entity_items, entity_sites}
 use Rattle.ir_names.specs.Least.{earlier_of, least}
-use Rattle.ir_names.specs.Sites.{Site}
+use Rattle.ir_entities.specs.Sites.{Site}
 
 number_snoc : (before sites : List Site) (s : Site) → number_faults_after before (sites ++ s ∷ []) ≡ number_faults_after before sites ++ number_fault (before ++ sites) s
 number_snoc before [] s = append-nil (number_fault before s) ∙ ap (λ b. number_fault b s) (sym (append-nil before))

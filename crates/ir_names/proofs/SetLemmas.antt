@@ -2,7 +2,7 @@
 use Rattle.std.proofs.Common.{◌≡◌, ◌∙◌, ◌+◌, ℕ, ◌||◌, ◌<◌, ◌≤◌, zero, suc, length, take, get_or, List, [], ◌∷◌, refl, sym, ap, arith}
 use Rattle.std.proofs.lemmas.List.Folds.{list_any_more}
 use Rattle.ir_names.specs.Faults.{is_defined, same_site}
-use Rattle.ir_names.specs.Sites.{Site}
+use Rattle.ir_entities.specs.Sites.{Site}
 
 pub take_whole : {A : Type 0} (xs : List A) (i : ℕ) → length xs ≤ i → take i xs ≡ xs
 take_whole [] zero h = refl

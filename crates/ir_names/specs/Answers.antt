@@ -1,6 +1,6 @@
 -- What the answers mean.
 use Rattle.std.specs.Prelude.{◌≡◌, List, Some}
-use Rattle.ir_names.specs.declared.entity.Entity.{Entity}
+use Rattle.ir_entities.specs.declared.entity.Entity.{Entity}
 use Rattle.ir_names.specs.declared.end.NamesEnd.{NamesEnd}
 use Rattle.ir_names.specs.declared.end.NamesEnd.TheVariants.{Name, NoMemory}
 use Rattle.ir_names.specs.Faults.{fault_lines}

@@ -1,15 +1,15 @@
 -- The lines of the faults of names (LangRef, "Identifiers").
 use Rattle.std.specs.Prelude.{ℕ, Bool, true, false, not, ◌&&◌, ◌||◌, nat_eq, List, [], ◌∷◌, ◌++◌, length, filter, if◌then◌else◌}
 use Rattle.std.specs.List.{flat_map, list_any}
-use Rattle.ir_names.specs.declared.entity.Entity.{Entity}
-use Rattle.ir_names.specs.declared.site.Sort.{Sort}
-use Rattle.ir_names.specs.declared.site.Sort.TheVariants.{NamedType, Global, Value, Block}
-use Rattle.ir_names.specs.EntityUses.{entity_uses}
-use Rattle.ir_names.specs.Items.{entity_items, entity_sites}
-use Rattle.ir_names.specs.Sites.{Site, sort_code}
-use Rattle.ir_syntax.specs.declared.name.Name.{Name}
-use Rattle.ir_syntax.specs.declared.name.Name.TheVariants.{Named, Unnamed, Implicit}
-use Rattle.ir_syntax.specs.Names.{same_name}
+use Rattle.ir_entities.specs.declared.entity.Entity.{Entity}
+use Rattle.ir_entities.specs.declared.site.NameKind.{NameKind}
+use Rattle.ir_entities.specs.declared.site.NameKind.TheVariants.{NamedType, Global, Value, Block}
+use Rattle.ir_entities.specs.EntityUses.{entity_uses}
+use Rattle.ir_entities.specs.Items.{entity_items, entity_sites}
+use Rattle.ir_entities.specs.Sites.{Site, kind_code}
+use Rattle.ir_ident.specs.declared.name.Name.{Name}
+use Rattle.ir_ident.specs.declared.name.Name.TheVariants.{Named, Unnamed, Implicit}
+use Rattle.ir_ident.specs.Names.{same_name}
 
 -- whether an item of this name is counted among the unnamed ones
 abbrev pub is_number : Name → Bool
@@ -18,7 +18,7 @@ is_number (Unnamed n) = true
 is_number Implicit = true
 
 -- names of types have no sequence
-abbrev pub is_counted : Sort → Bool
+abbrev pub is_counted : NameKind → Bool
 is_counted NamedType = false
 is_counted Global = true
 is_counted Value = true
@@ -53,9 +53,9 @@ number_faults_after before (s ∷ sites) = number_fault before s ++ number_fault
 abbrev pub number_faults : List Site → List ℕ
 number_faults sites = number_faults_after [] sites
 
--- whether two sites have one sort and one name
+-- whether two sites have one kind and one name
 abbrev pub same_site : Site → Site → Bool
-same_site a b = nat_eq (sort_code a.0) (sort_code b.0) && same_name a.1.name b.1.name
+same_site a b = nat_eq (kind_code a.0) (kind_code b.0) && same_name a.1.name b.1.name
 
 -- whether a name that is used is defined at one of these
 abbrev pub is_defined : List Site → Site → Bool

@@ -1,13 +1,6 @@
 pub mod Answers
-pub mod BlockUses
-pub mod EntityUses
 pub mod Faults
-pub mod Items
 pub mod Least
 pub mod Modules
 pub mod Numbered
-pub mod OpUses
-pub mod OperandUses
 pub mod Sets
-pub mod Sites
-pub mod Uses

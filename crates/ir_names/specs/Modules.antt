@@ -1,8 +1,8 @@
 -- The module of a list of items.
 use Rattle.std.specs.Prelude.{List, [], ◌∷◌}
 use Rattle.std.specs.List.{flat_map}
-use Rattle.ir_names.specs.declared.entity.Entity.{Entity}
-use Rattle.ir_names.specs.declared.entity.Entity.TheVariants as entity
+use Rattle.ir_entities.specs.declared.entity.Entity.{Entity}
+use Rattle.ir_entities.specs.declared.entity.Entity.TheVariants as entity
 use Rattle.ir_syntax.specs.declared.alias.Alias.{Alias}
 use Rattle.ir_syntax.specs.declared.function.Function.{Function}
 use Rattle.ir_syntax.specs.declared.global.Global.{Global}

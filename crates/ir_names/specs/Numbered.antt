@@ -1,17 +1,17 @@
 -- The items of a module with their numbers.
 use Rattle.std.specs.Prelude.{ℕ, ◌+◌, List, [], ◌∷◌, map, Option, None, Some}
 use Rattle.std.specs.List.{flat_map}
-use Rattle.ir_names.specs.declared.entity.Entity.{Entity}
-use Rattle.ir_names.specs.declared.entity.Entity.TheVariants as entity
+use Rattle.ir_entities.specs.declared.entity.Entity.{Entity}
+use Rattle.ir_entities.specs.declared.entity.Entity.TheVariants as entity
 use Rattle.ir_names.specs.Faults.{unnamed_in}
-use Rattle.ir_names.specs.Items.{param_sites, phi_sites, instr_sites, label_sites, block_sites}
-use Rattle.ir_names.specs.Sites.{Site}
+use Rattle.ir_entities.specs.Items.{param_sites, phi_sites, instr_sites, label_sites, block_sites}
+use Rattle.ir_entities.specs.Sites.{Site}
 use Rattle.ir_syntax.specs.declared.block.Block.{Block}
 use Rattle.ir_syntax.specs.declared.function.Function.{Function}
 use Rattle.ir_syntax.specs.declared.function.Param.{Param}
 use Rattle.ir_syntax.specs.declared.instr.Instr.{Instr}
-use Rattle.ir_syntax.specs.declared.name.Name.{Name}
-use Rattle.ir_syntax.specs.declared.name.Name.TheVariants.{Named, Unnamed, Implicit}
+use Rattle.ir_ident.specs.declared.name.Name.{Name}
+use Rattle.ir_ident.specs.declared.name.Name.TheVariants.{Named, Unnamed, Implicit}
 use Rattle.ir_syntax.specs.declared.phi.Phi.{Phi}
 
 -- the name of an item behind n unnamed ones

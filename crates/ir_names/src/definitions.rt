@@ -2,13 +2,13 @@
 ghost use Rattle.std.specs.Prelude.{◌≡◌, ◌||◌, false, IfOk, OnOk};
 ghost use Rattle.ir_names.specs.Faults.{is_defined, same_site};
 ghost use Rattle.ir_names.specs.Sets.{knows};
-ghost use Rattle.ir_names.specs.Sites.{Site};
+ghost use Rattle.ir_entities.specs.Sites.{Site};
 
-use crate::site::{Site, Sort};
-use ir_syntax::NameSet;
+use ir_entities::{NameKind, Site};
+use ir_ident::NameSet;
 use std::alloc::{AllocError, Global};
 
-/// The names of each sort that are defined.
+/// The names of each kind that are defined.
 pub(crate) struct Definitions<'a> {
     pub(crate) types: NameSet<'a>,
     pub(crate) globals: NameSet<'a>,
@@ -57,11 +57,11 @@ impl<'a> Definitions<'a> {
     fn insert(&mut self, site: &Site<'a>) -> Result<(), AllocError>
         ensures { OnOk result ((other : Site) → knows self.new other ≡ (knows self.old other || same_site other site.now)) }
     {
-        match site.sort {
-            Sort::NamedType => self.types.insert(site.name),
-            Sort::Global => self.globals.insert(site.name),
-            Sort::Value => self.values.insert(site.name),
-            Sort::Block => self.blocks.insert(site.name),
+        match site.kind {
+            NameKind::NamedType => self.types.insert(site.name),
+            NameKind::Global => self.globals.insert(site.name),
+            NameKind::Value => self.values.insert(site.name),
+            NameKind::Block => self.blocks.insert(site.name),
         }
     }
 
@@ -69,11 +69,11 @@ impl<'a> Definitions<'a> {
     pub(crate) fn has(&self, site: &Site<'_>) -> bool
         ensures { result ≡ knows self.now site.now }
     {
-        match site.sort {
-            Sort::NamedType => self.types.has(site.name),
-            Sort::Global => self.globals.has(site.name),
-            Sort::Value => self.values.has(site.name),
-            Sort::Block => self.blocks.has(site.name),
+        match site.kind {
+            NameKind::NamedType => self.types.has(site.name),
+            NameKind::Global => self.globals.has(site.name),
+            NameKind::Value => self.values.has(site.name),
+            NameKind::Block => self.blocks.has(site.name),
         }
     }
 }

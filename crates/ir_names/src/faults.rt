@@ -6,12 +6,9 @@ ghost use Rattle.ir_names.specs.Least.{least};
 ghost use Rattle.ir_names.specs.Sets.{knows};
 
 use crate::definitions::Definitions;
-use crate::entity::Entity;
-use crate::items::{push_entities, push_items};
 use crate::least::earlier;
-use crate::site::{Site, Sort};
-use crate::uses::push_entity;
-use ir_syntax::Name;
+use ir_entities::{Entity, NameKind, Site, push_locals, push_top_level, push_uses};
+use ir_ident::Name;
 use std::alloc::{AllocError, Global};
 
 /// The least line of a fault in these items of a module.
@@ -19,7 +16,7 @@ pub(crate) fn first_fault(alloc: Global, entities: &[Entity]) -> Result<Option<u
     ensures { IfOk result (λ line. line ≡ least (fault_lines entities.now)) }
 {
     let mut sites = Vec::new(alloc);
-    push_entities(&mut sites, entities)?;
+    push_top_level(&mut sites, entities)?;
     let numbers = number_fault(sites.as_slice());
     let defined = Definitions::at(alloc, sites.as_slice())?;
     let uses = entities_fault(alloc, &defined, entities)?;
@@ -49,11 +46,11 @@ fn entity_fault(
     ensures { IfOk result (λ line. line ≡ least (entity_faults (knows defined.now) entity.now)) }
 {
     let mut items = Vec::new(alloc);
-    push_items(&mut items, entity)?;
+    push_locals(&mut items, entity)?;
     let numbers = number_fault(items.as_slice());
     let own = Definitions::at(alloc, items.as_slice())?;
     let mut uses = Vec::new(alloc);
-    push_entity(&mut uses, entity)?;
+    push_uses(&mut uses, entity)?;
     Ok(earlier(numbers, use_fault(defined, &own, uses.as_slice())))
 }
 
@@ -73,9 +70,9 @@ fn use_fault(defined: &Definitions<'_>, own: &Definitions<'_>, uses: &[Site<'_>]
 fn is_known(defined: &Definitions<'_>, own: &Definitions<'_>, site: &Site<'_>) -> bool
     ensures { result ≡ (knows defined.now site.now || knows own.now site.now) }
 {
-    match site.sort {
-        Sort::Value | Sort::Block => own.has(site) || defined.has(site),
-        Sort::NamedType | Sort::Global => defined.has(site) || own.has(site),
+    match site.kind {
+        NameKind::Value | NameKind::Block => own.has(site) || defined.has(site),
+        NameKind::NamedType | NameKind::Global => defined.has(site) || own.has(site),
     }
 }
 
@@ -107,7 +104,7 @@ fn is_misnumbered(next: u64, site: &Site<'_>) -> bool
         Name::Unnamed(number) => number.to_u64() != Some(next),
         Name::Named(_) | Name::Implicit => false,
     };
-    is_counted(site.sort) & other
+    is_counted(site.kind) & other
 }
 
 /// How many unnamed items a site counts for.
@@ -125,15 +122,15 @@ fn is_unnamed(site: &Site<'_>) -> bool
         Name::Unnamed(_) | Name::Implicit => true,
         Name::Named(_) => false,
     };
-    is_counted(site.sort) & number
+    is_counted(site.kind) & number
 }
 
-/// Whether unnamed items of a sort are counted.
-fn is_counted(sort: Sort) -> bool
-    ensures { result ≡ is_counted sort }
+/// Whether unnamed items of a kind are counted.
+fn is_counted(kind: NameKind) -> bool
+    ensures { result ≡ is_counted kind }
 {
-    match sort {
-        Sort::NamedType => false,
-        Sort::Global | Sort::Value | Sort::Block => true,
+    match kind {
+        NameKind::NamedType => false,
+        NameKind::Global | NameKind::Value | NameKind::Block => true,
     }
 }

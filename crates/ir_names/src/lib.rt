@@ -4,17 +4,11 @@
 
 mod definitions;
 mod end;
-mod entity;
 mod faults;
-mod items;
 mod least;
 mod numbered;
 mod parts;
 mod resolving;
-mod site;
-mod uses;
 
 pub use end::NamesEnd;
-pub use entity::{Entities, Entity};
 pub use resolving::resolve;
-pub use site::Sort;

@@ -2,14 +2,13 @@
 ghost use Rattle.std.specs.Prelude.{◌≡◌, ◌+◌, List, ℕ, IfOk, OnOk, if◌then◌else◌};
 ghost use Rattle.std.specs.List.{flat_map};
 ghost use Rattle.ir_names.specs.Faults.{is_number, unnamed_in};
-ghost use Rattle.ir_names.specs.Items.{block_sites, instr_sites, param_sites, phi_sites, result_sites};
+ghost use Rattle.ir_entities.specs.Items.{block_sites, instr_sites, param_sites, phi_sites, result_sites};
 ghost use Rattle.ir_names.specs.Numbered.{each_numbered, numbered, numbered_block, numbered_blocks, numbered_entities, numbered_entity, numbered_function, numbered_instr, numbered_param, numbered_phi, numbered_result};
-ghost use Rattle.ir_names.specs.Sites.{Site};
+ghost use Rattle.ir_entities.specs.Sites.{Site};
 
-use crate::entity::{Entities, Entity};
-use ir_syntax::{
-    Block, Blocks, Function, Instr, Instrs, ItemNumber, Name, Param, Params, Phi, Phis,
-};
+use ir_entities::{Entities, Entity};
+use ir_ident::{ItemNumber, Name};
+use ir_syntax::{Block, Blocks, Function, Instr, Instrs, Param, Params, Phi, Phis};
 use std::alloc::{AllocError, Global};
 use std::mem;
 

@@ -2,7 +2,7 @@
 ghost use Rattle.std.specs.Prelude.{◌≡◌, ◌++◌, [], OnOk};
 ghost use Rattle.ir_names.specs.Modules.{alias_of, function_of, global_of, type_of};
 
-use crate::entity::Entity;
+use ir_entities::Entity;
 use ir_syntax::{
     Alias, Aliases, Function, Functions, Global as Variable, Globals, Module, TypeDef, TypeDefs,
 };

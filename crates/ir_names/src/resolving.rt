@@ -6,10 +6,10 @@ ghost use Rattle.ir_names.specs.Modules.{module_of};
 ghost use Rattle.ir_names.specs.Numbered.{numbered_entities};
 
 use crate::end::NamesEnd;
-use crate::entity::Entities;
 use crate::faults::first_fault;
 use crate::numbered::number_entities;
 use crate::parts::Parts;
+use ir_entities::Entities;
 use ir_syntax::Module;
 use std::alloc::{AllocError, Global};
 

@@ -1,10 +1,9 @@
 -- What may stand after a comma behind an operation: an alignment, or metadata to its end.
-use Rattle.std.specs.Prelude.{ℕ, Option, Some, None, List, [], ◌∷◌, Bool, false, true}
+use Rattle.std.specs.Prelude.{ℕ, Option, Some, None, [], ◌∷◌, false, true}
 use Rattle.ir_syntax.specs.declared.operand.TypedLiteral.{TypedLiteral}
-use Rattle.ir_words.specs.declared.class.Class.{Class}
 use Rattle.ir_words.specs.declared.class.Class.TheVariants.{Align, Comma, Meta, OpenSquare, OpenCurly, OpenPacked, IntType, Ptr, Local}
 use Rattle.ir_rules.specs.Leaves.{ending, leading}
-use Rattle.ir_rules.specs.Rules.{Rule, ◌▷◌, either, made, nothing, seq, within, word}
+use Rattle.ir_rules.specs.Rules.{Rule, ◌▷◌, either, made, nothing, seq, within}
 use Rattle.ir_attributes.specs.Attributes.{alignments, attachment, attachments}
 use Rattle.ir_values.specs.Values.{typed_literals}
 

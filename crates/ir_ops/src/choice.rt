@@ -10,7 +10,7 @@ use ir_calls::read_call;
 use ir_rules::End;
 use ir_syntax::Op;
 use ir_value_ops::{begins_value_op, read_value_op};
-use ir_words::{Class, Rest};
+use ir_words::{Class, Cursor};
 use std::alloc::Global;
 
 /// Whether a token of this class begins an operation on memory.
@@ -22,7 +22,7 @@ fn begins_memory_op(class: Class) -> bool
 
 /// Reads an operation on memory, and what metadata stands behind it.
 #[tactic(auto, unfolding(crate::specs::Operations::memory_op_forms))]
-fn read_memory_op<'t>(alloc: Global, rest: Rest<'t>) -> Result<(Op, Rest<'t>), End>
+fn read_memory_op<'t>(alloc: Global, rest: Cursor<'t>) -> Result<(Op, Cursor<'t>), End>
     ensures { Gives (λ x. x) result (memory_ops.read rest.entry) }
 {
     match rest.first() {
@@ -39,7 +39,7 @@ fn read_memory_op<'t>(alloc: Global, rest: Rest<'t>) -> Result<(Op, Rest<'t>), E
 ///
 /// `Bad` at the first token with which no such operation goes on.
 #[tactic(auto, unfolding(crate::specs::Operations::plain_op_forms))]
-pub fn read_plain_op<'t>(alloc: Global, rest: Rest<'t>) -> Result<(Option<Op>, Rest<'t>), End>
+pub fn read_plain_op<'t>(alloc: Global, rest: Cursor<'t>) -> Result<(Option<Op>, Cursor<'t>), End>
     ensures { Gives (λ x. x) result (plain_ops.read rest.entry) }
 {
     let class = rest.first();
@@ -63,7 +63,7 @@ pub fn read_plain_op<'t>(alloc: Global, rest: Rest<'t>) -> Result<(Option<Op>, R
 ///
 /// `Bad` at the first token with which no such operation goes on.
 #[tactic(auto, unfolding(crate::specs::Operations::entry_op_forms))]
-pub fn read_entry_op<'t>(alloc: Global, rest: Rest<'t>) -> Result<(Option<Op>, Rest<'t>), End>
+pub fn read_entry_op<'t>(alloc: Global, rest: Cursor<'t>) -> Result<(Option<Op>, Cursor<'t>), End>
     ensures { Gives (λ x. x) result (entry_ops.read rest.entry) }
 {
     match rest.first() {

@@ -8,12 +8,15 @@ use ir_attributes::read_attachment;
 use ir_rules::{End, word};
 use ir_syntax::TypedOperand;
 use ir_values::read_typed_operand;
-use ir_words::{Class, Rest};
+use ir_words::{Class, Cursor};
 use std::alloc::{AllocError, Global};
 
 /// Reads an index, or metadata, of which nothing is kept.
 #[tactic(auto, unfolding(crate::specs::Operations::index_forms))]
-fn read_index<'t>(alloc: Global, rest: Rest<'t>) -> Result<(Option<TypedOperand>, Rest<'t>), End>
+fn read_index<'t>(
+    alloc: Global,
+    rest: Cursor<'t>,
+) -> Result<(Option<TypedOperand>, Cursor<'t>), End>
     ensures { Gives (λ x. x) result (index_forms.read rest.entry) }
 {
     let rest = word(rest, Class::Comma)?;
@@ -33,9 +36,9 @@ fn read_index<'t>(alloc: Global, rest: Rest<'t>) -> Result<(Option<TypedOperand>
 #[tactic(auto, unfolding(crate::specs::Operations::index_tail))]
 fn read_index_tail<'t>(
     alloc: Global,
-    rest: Rest<'t>,
+    rest: Cursor<'t>,
     before: bool,
-) -> Result<(Option<TypedOperand>, Rest<'t>), End>
+) -> Result<(Option<TypedOperand>, Cursor<'t>), End>
     ensures { Gives (λ x. x) result ((index_tail before).read rest.entry) }
 {
     if before {
@@ -68,8 +71,8 @@ fn keep_index(
 #[tactic(auto, unfolding(crate::specs::Operations::index_list_forms))]
 pub(crate) fn read_indices<'t>(
     alloc: Global,
-    rest: Rest<'t>,
-) -> Result<(Vec<TypedOperand>, Rest<'t>), End>
+    rest: Cursor<'t>,
+) -> Result<(Vec<TypedOperand>, Cursor<'t>), End>
     ensures { Gives (λ x. (x.0.items, x.1)) result (index_lists.read rest.entry) }
 {
     let mut rest = rest;

@@ -1,7 +1,7 @@
 //! Operations on memory (LangRef, "Memory Access and Addressing Operations").
 ghost use Rattle.ir_ops.specs.Operations.{allocas, geps, loads, stores};
 ghost use Rattle.ir_rules.specs.Leaves.{flag};
-ghost use Rattle.ir_rules.specs.Reading.{Gives};
+ghost use Rattle.ir_rules.specs.Reading.{Gives, GivesExactly};
 ghost use Rattle.ir_words.specs.declared.class.Class.TheVariants.{Inbounds};
 
 use crate::indices::read_indices;
@@ -11,12 +11,12 @@ use ir_syntax::{Op, TypedOperands};
 use ir_types::read_type;
 use ir_value_ops::read_next_operand;
 use ir_values::read_typed_operand;
-use ir_words::{Class, Rest};
+use ir_words::{Class, Cursor};
 use std::alloc::Global;
 
 /// Reads whether `inbounds` stands here.
-fn read_inbounds<'t>(rest: Rest<'t>) -> Result<(bool, Rest<'t>), End>
-    ensures { Gives (λ x. x) result ((flag Inbounds).read rest.entry) }
+fn read_inbounds<'t>(rest: Cursor<'t>) -> Result<(bool, Cursor<'t>), End>
+    ensures { GivesExactly (λ x. x) result ((flag Inbounds).read rest.entry) }
 {
     match rest.first() {
         Class::Inbounds => Ok((true, rest.skip())),
@@ -26,7 +26,7 @@ fn read_inbounds<'t>(rest: Rest<'t>) -> Result<(bool, Rest<'t>), End>
 
 /// Reads the address of a part.
 #[tactic(auto, unfolding(crate::specs::Operations::gep_forms))]
-pub(crate) fn read_gep<'t>(alloc: Global, rest: Rest<'t>) -> Result<(Op, Rest<'t>), End>
+pub(crate) fn read_gep<'t>(alloc: Global, rest: Cursor<'t>) -> Result<(Op, Cursor<'t>), End>
     ensures { Gives (λ x. x) result (geps.read rest.entry) }
 {
     let rest = word(rest, Class::Getelementptr)?;
@@ -46,7 +46,7 @@ pub(crate) fn read_gep<'t>(alloc: Global, rest: Rest<'t>) -> Result<(Op, Rest<'t
 
 /// Reads a load.
 #[tactic(auto, unfolding(crate::specs::Operations::load_forms))]
-pub(crate) fn read_load<'t>(alloc: Global, rest: Rest<'t>) -> Result<(Op, Rest<'t>), End>
+pub(crate) fn read_load<'t>(alloc: Global, rest: Cursor<'t>) -> Result<(Op, Cursor<'t>), End>
     ensures { Gives (λ x. x) result (loads.read rest.entry) }
 {
     let rest = word(rest, Class::Load)?;
@@ -64,7 +64,7 @@ pub(crate) fn read_load<'t>(alloc: Global, rest: Rest<'t>) -> Result<(Op, Rest<'
 
 /// Reads a store.
 #[tactic(auto, unfolding(crate::specs::Operations::store_forms))]
-pub(crate) fn read_store<'t>(alloc: Global, rest: Rest<'t>) -> Result<(Op, Rest<'t>), End>
+pub(crate) fn read_store<'t>(alloc: Global, rest: Cursor<'t>) -> Result<(Op, Cursor<'t>), End>
     ensures { Gives (λ x. x) result (stores.read rest.entry) }
 {
     let rest = word(rest, Class::Store)?;
@@ -83,7 +83,7 @@ pub(crate) fn read_store<'t>(alloc: Global, rest: Rest<'t>) -> Result<(Op, Rest<
 
 /// Reads an allocation on the stack.
 #[tactic(auto, unfolding(crate::specs::Operations::alloca_forms))]
-pub(crate) fn read_alloca<'t>(alloc: Global, rest: Rest<'t>) -> Result<(Op, Rest<'t>), End>
+pub(crate) fn read_alloca<'t>(alloc: Global, rest: Cursor<'t>) -> Result<(Op, Cursor<'t>), End>
     ensures { Gives (λ x. x) result (allocas.read rest.entry) }
 {
     let rest = word(rest, Class::Alloca)?;

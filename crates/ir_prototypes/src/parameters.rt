@@ -9,10 +9,11 @@ ghost use Rattle.ir_types.specs.Types.{types};
 ghost use Rattle.ir_prototypes.specs.Prototypes.{bracketed, metadata_params, param_names, param_of, params, params_in};
 
 use ir_attributes::read_attributes;
+use ir_ident::Name;
 use ir_rules::{End, word};
-use ir_syntax::{Name, Param, Params, TyText};
+use ir_syntax::{Param, Params, TyText};
 use ir_types::{read_local_name, read_type};
-use ir_words::{Class, Rest};
+use ir_words::{Class, Cursor};
 use std::alloc::Global;
 
 /// An alignment, and a name with its line.
@@ -20,7 +21,7 @@ type ParamName = (Option<u64>, Option<(u32, Name)>);
 
 /// Reads attributes and a name, where one stands.
 #[tactic(auto, unfolding(crate::specs::Prototypes::param_name_forms))]
-fn read_param_name<'t>(alloc: Global, rest: Rest<'t>) -> Result<(ParamName, Rest<'t>), End>
+fn read_param_name<'t>(alloc: Global, rest: Cursor<'t>) -> Result<(ParamName, Cursor<'t>), End>
     ensures { Gives (λ x. x) result (param_names.read rest.entry) }
 {
     let (align, rest) = read_attributes(alloc, rest)?;
@@ -56,7 +57,7 @@ fn param_of(line: u32, ty: Option<TyText>, name: Option<(u32, Name)>) -> Param
 
 /// Reads a parameter of a type.
 #[tactic(auto, unfolding(crate::specs::Prototypes::param_forms))]
-fn read_typed_param<'t>(alloc: Global, rest: Rest<'t>) -> Result<(Param, Rest<'t>), End>
+fn read_typed_param<'t>(alloc: Global, rest: Cursor<'t>) -> Result<(Param, Cursor<'t>), End>
     ensures { Gives (λ x. x) result (params.read rest.entry) }
 {
     let line = rest.line();
@@ -66,7 +67,7 @@ fn read_typed_param<'t>(alloc: Global, rest: Rest<'t>) -> Result<(Param, Rest<'t
 }
 
 /// Reads a type, or `metadata`.
-fn read_param_type<'t>(alloc: Global, rest: Rest<'t>) -> Result<(Option<TyText>, Rest<'t>), End>
+fn read_param_type<'t>(alloc: Global, rest: Cursor<'t>) -> Result<(Option<TyText>, Cursor<'t>), End>
     ensures { Gives (λ x. x) result ((either (means Metadata None) (made (λ (t : TextTree). Some t) (types 64))).read rest.entry) }
 {
     match rest.first() {
@@ -80,7 +81,7 @@ fn read_param_type<'t>(alloc: Global, rest: Rest<'t>) -> Result<(Option<TyText>,
 
 /// Reads a parameter of a type, or of metadata.
 #[tactic(auto, unfolding(crate::specs::Prototypes::metadata_param_forms))]
-fn read_metadata_param<'t>(alloc: Global, rest: Rest<'t>) -> Result<(Param, Rest<'t>), End>
+fn read_metadata_param<'t>(alloc: Global, rest: Cursor<'t>) -> Result<(Param, Cursor<'t>), End>
     ensures { Gives (λ x. x) result (metadata_params.read rest.entry) }
 {
     let line = rest.line();
@@ -90,7 +91,11 @@ fn read_metadata_param<'t>(alloc: Global, rest: Rest<'t>) -> Result<(Param, Rest
 }
 
 /// Reads a parameter, which may be of metadata or not.
-fn read_param<'t>(alloc: Global, rest: Rest<'t>, metadata: bool) -> Result<(Param, Rest<'t>), End>
+fn read_param<'t>(
+    alloc: Global,
+    rest: Cursor<'t>,
+    metadata: bool,
+) -> Result<(Param, Cursor<'t>), End>
     ensures { Gives (λ x. x) result ((params_in metadata).read rest.entry) }
 {
     if metadata {
@@ -145,9 +150,9 @@ fn begins_param(class: Class, metadata: bool) -> bool
 /// Reads parameters parted by commas, or none.
 fn read_param_list<'t>(
     alloc: Global,
-    rest: Rest<'t>,
+    rest: Cursor<'t>,
     metadata: bool,
-) -> Result<(Vec<Param>, Rest<'t>), End>
+) -> Result<(Vec<Param>, Cursor<'t>), End>
     ensures { Gives (λ x. (x.0.items, x.1)) result ((commas (params_in metadata)).read rest.entry) }
 {
     let mut list = Vec::new(alloc);
@@ -168,9 +173,9 @@ fn read_param_list<'t>(
 /// Reads `(`, parameters, and `)`.
 pub(crate) fn read_params<'t>(
     alloc: Global,
-    rest: Rest<'t>,
+    rest: Cursor<'t>,
     metadata: bool,
-) -> Result<(Params, Rest<'t>), End>
+) -> Result<(Params, Cursor<'t>), End>
     ensures { Gives (λ x. x) result ((bracketed (params_in metadata)).read rest.entry) }
 {
     let rest = word(rest, Class::OpenRound)?;

@@ -1,5 +1,6 @@
 //! What a function says before its body.
-use ir_syntax::{NameUse, Params, TyText, Visibility};
+use ir_ident::NameUse;
+use ir_syntax::{Params, TyText, Visibility};
 
 /// The prototype of a function (LangRef, "Functions").
 #[derive(Drop)]

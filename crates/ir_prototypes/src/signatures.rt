@@ -7,18 +7,19 @@ use crate::parameters::read_params;
 use crate::prototype::Prototype;
 use ir_attributes::read_attributes;
 use ir_globals::read_visibility;
+use ir_ident::NameUse;
 use ir_rules::End;
-use ir_syntax::{NameUse, Params};
+use ir_syntax::Params;
 use ir_types::read_result_type;
 use ir_values::{read_declared_use, read_global_use, read_metadata_intrinsic};
-use ir_words::{Class, Rest};
+use ir_words::{Class, Cursor};
 use std::alloc::Global;
 
 /// Reads the name of an intrinsic that only carries metadata, and its parameters.
 fn read_metadata_name<'t>(
     alloc: Global,
-    rest: Rest<'t>,
-) -> Result<((NameUse, Params), Rest<'t>), End>
+    rest: Cursor<'t>,
+) -> Result<((NameUse, Params), Cursor<'t>), End>
     ensures { Gives (λ x. x) result (metadata_names.read rest.entry) }
 {
     let (name, rest) = read_metadata_intrinsic(alloc, rest)?;
@@ -27,7 +28,10 @@ fn read_metadata_name<'t>(
 }
 
 /// Reads the name of another declared function, and its parameters.
-fn read_other_name<'t>(alloc: Global, rest: Rest<'t>) -> Result<((NameUse, Params), Rest<'t>), End>
+fn read_other_name<'t>(
+    alloc: Global,
+    rest: Cursor<'t>,
+) -> Result<((NameUse, Params), Cursor<'t>), End>
     ensures { Gives (λ x. x) result (other_names.read rest.entry) }
 {
     let (name, rest) = read_declared_use(alloc, rest)?;
@@ -39,8 +43,8 @@ fn read_other_name<'t>(alloc: Global, rest: Rest<'t>) -> Result<((NameUse, Param
 #[tactic(auto, unfolding(crate::specs::Prototypes::declared_name_forms))]
 fn read_declared_name<'t>(
     alloc: Global,
-    rest: Rest<'t>,
-) -> Result<((NameUse, Params), Rest<'t>), End>
+    rest: Cursor<'t>,
+) -> Result<((NameUse, Params), Cursor<'t>), End>
     ensures { Gives (λ x. x) result (declared_names.read rest.entry) }
 {
     match rest.first() {
@@ -53,8 +57,8 @@ fn read_declared_name<'t>(
 #[tactic(auto, unfolding(crate::specs::Prototypes::defined_name_forms))]
 fn read_defined_name<'t>(
     alloc: Global,
-    rest: Rest<'t>,
-) -> Result<((NameUse, Params), Rest<'t>), End>
+    rest: Cursor<'t>,
+) -> Result<((NameUse, Params), Cursor<'t>), End>
     ensures { Gives (λ x. x) result (defined_names.read rest.entry) }
 {
     let (name, rest) = read_global_use(alloc, rest)?;
@@ -66,8 +70,8 @@ fn read_defined_name<'t>(
 #[tactic(auto, unfolding(crate::specs::Prototypes::signature_forms))]
 pub fn read_declared_signature<'t>(
     alloc: Global,
-    rest: Rest<'t>,
-) -> Result<(Prototype, Rest<'t>), End>
+    rest: Cursor<'t>,
+) -> Result<(Prototype, Cursor<'t>), End>
     ensures { Gives (λ x. (signature_of x.0, x.1)) result (declared_signatures.read rest.entry) }
 {
     let (visibility, rest) = read_visibility(rest)?;
@@ -87,8 +91,8 @@ pub fn read_declared_signature<'t>(
 #[tactic(auto, unfolding(crate::specs::Prototypes::signature_forms))]
 pub fn read_defined_signature<'t>(
     alloc: Global,
-    rest: Rest<'t>,
-) -> Result<(Prototype, Rest<'t>), End>
+    rest: Cursor<'t>,
+) -> Result<(Prototype, Cursor<'t>), End>
     ensures { Gives (λ x. (signature_of x.0, x.1)) result (defined_signatures.read rest.entry) }
 {
     let (visibility, rest) = read_visibility(rest)?;

@@ -1,19 +1,19 @@
 //! What a function says behind its parameters: attributes and attached metadata (LangRef,
 //! "Functions").
 ghost use Rattle.std.specs.Prelude.{◌≡◌};
-ghost use Rattle.ir_rules.specs.Reading.{Gives};
+ghost use Rattle.ir_rules.specs.Reading.{Gives, GivesExactly};
 ghost use Rattle.ir_rules.specs.Rules.{dropped, has};
 ghost use Rattle.ir_attributes.specs.Attributes.{attachment};
 ghost use Rattle.ir_prototypes.specs.Prototypes.{declared_ends, defined_ends};
 
 use ir_attributes::{read_attachment, read_attribute};
 use ir_rules::{End, word};
-use ir_words::{Class, Rest};
+use ir_words::{Class, Cursor};
 use std::alloc::Global;
 
 /// Skips metadata attached to a declaration.
-pub fn skip_metadata<'t>(rest: Rest<'t>) -> Result<Rest<'t>, End>
-    ensures { Gives (λ rest. (tt, rest)) result ((dropped attachment).read rest.entry) }
+pub fn skip_metadata<'t>(rest: Cursor<'t>) -> Result<Cursor<'t>, End>
+    ensures { GivesExactly (λ rest. (tt, rest)) result ((dropped attachment).read rest.entry) }
 {
     let mut rest = rest;
     while rest.first() == Class::Meta {
@@ -24,7 +24,7 @@ pub fn skip_metadata<'t>(rest: Rest<'t>) -> Result<Rest<'t>, End>
 
 /// Skips an attribute of a declaration.
 #[tactic(auto, unfolding(crate::specs::Prototypes::declared_end_forms))]
-fn skip_declared_end<'t>(alloc: Global, rest: Rest<'t>) -> Result<Rest<'t>, End>
+fn skip_declared_end<'t>(alloc: Global, rest: Cursor<'t>) -> Result<Cursor<'t>, End>
     ensures { Gives (λ rest. (tt, rest)) result (declared_ends.read rest.entry) }
 {
     match rest.first() {
@@ -33,7 +33,7 @@ fn skip_declared_end<'t>(alloc: Global, rest: Rest<'t>) -> Result<Rest<'t>, End>
             Ok(rest)
         }
         Class::UnnamedAddr => Ok(rest.skip()),
-        _ => word(rest, Class::LocalUnnamedAddr),
+        _ => Ok(word(rest, Class::LocalUnnamedAddr)?),
     }
 }
 
@@ -53,7 +53,7 @@ fn begins_declared_end(class: Class) -> bool
 }
 
 /// Skips the attributes of a declaration.
-pub fn skip_declared_ends<'t>(alloc: Global, rest: Rest<'t>) -> Result<Rest<'t>, End>
+pub fn skip_declared_ends<'t>(alloc: Global, rest: Cursor<'t>) -> Result<Cursor<'t>, End>
     ensures { Gives (λ rest. (tt, rest)) result ((dropped declared_ends).read rest.entry) }
 {
     let mut rest = rest;
@@ -65,11 +65,11 @@ pub fn skip_declared_ends<'t>(alloc: Global, rest: Rest<'t>) -> Result<Rest<'t>,
 
 /// Skips an attribute of a definition, or metadata.
 #[tactic(auto, unfolding(crate::specs::Prototypes::defined_end_forms))]
-fn skip_defined_end<'t>(alloc: Global, rest: Rest<'t>) -> Result<Rest<'t>, End>
+fn skip_defined_end<'t>(alloc: Global, rest: Cursor<'t>) -> Result<Cursor<'t>, End>
     ensures { Gives (λ rest. (tt, rest)) result (defined_ends.read rest.entry) }
 {
     match rest.first() {
-        Class::Meta => read_attachment(rest),
+        Class::Meta => Ok(read_attachment(rest)?),
         _ => skip_declared_end(alloc, rest),
     }
 }
@@ -91,7 +91,7 @@ fn begins_defined_end(class: Class) -> bool
 }
 
 /// Skips the attributes of a definition, and metadata.
-pub fn skip_defined_ends<'t>(alloc: Global, rest: Rest<'t>) -> Result<Rest<'t>, End>
+pub fn skip_defined_ends<'t>(alloc: Global, rest: Cursor<'t>) -> Result<Cursor<'t>, End>
     ensures { Gives (λ rest. (tt, rest)) result ((dropped defined_ends).read rest.entry) }
 {
     let mut rest = rest;

@@ -16,7 +16,7 @@ use Rattle.ir_body.proofs.BlockLaws.{blocks_law}
 use Rattle.ir_read.specs.Entities.{entities, entity_forms, kept_entities, module_forms, modules, nothing_kept, type_defs}
 use Rattle.ir_functions.specs.Functions.{Front, block_lists, closed_block_forms, closed_blocks, declarations, definition_forms, definition_of, definitions, openings}
 use Rattle.ir_globals.specs.Variables.{global_entities}
-use Rattle.ir_names.specs.declared.entity.Entity.{Entity}
+use Rattle.ir_entities.specs.declared.entity.Entity.{Entity}
 use Rattle.ir_read.proofs.Begun.{first_begun, item_begun, made_begun, second_begun}
 use Rattle.ir_functions.proofs.FunctionLaws.{openings_law}
 

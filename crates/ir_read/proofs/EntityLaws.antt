@@ -12,7 +12,7 @@ use Rattle.ir_rules.proofs.Words.{before_law, word_law}
 use Rattle.ir_attributes.proofs.AttributeLaws.{round_brackets_law}
 use Rattle.ir_types.proofs.TypeLaws.{local_uses_law, structs_law, types_law}
 use Rattle.ir_read.specs.Entities.{attribute_group, dropped_entities, dropped_forms, entities, entity_forms, metadata, metadata_body, module_forms, modules, source_filename, target, type_def_forms, type_def_of, type_defs}
-use Rattle.ir_names.specs.declared.entity.Entity.{Entity}
+use Rattle.ir_entities.specs.declared.entity.Entity.{Entity}
 use Rattle.ir_functions.proofs.FunctionLaws.{declarations_law, definitions_law}
 use Rattle.ir_globals.proofs.VariableLaws.{global_entities_law}
 

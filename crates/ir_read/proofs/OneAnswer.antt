@@ -7,7 +7,7 @@ use Rattle.ir_names.specs.Faults.{fault_lines}
 use Rattle.ir_names.specs.Least.{least}
 use Rattle.ir_names.specs.Modules.{module_of}
 use Rattle.ir_names.specs.Numbered.{numbered_entities}
-use Rattle.ir_names.specs.declared.entity.Entity.{Entity}
+use Rattle.ir_entities.specs.declared.entity.Entity.{Entity}
 use Rattle.ir_read.proofs.EntityLaws.{modules_law}
 use Rattle.ir_read.proofs.Naming.{none_least}
 use Rattle.ir_read.proofs.Settled.{no_tokens, same_found, same_tokens}

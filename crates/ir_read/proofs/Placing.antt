@@ -10,7 +10,6 @@ use Rattle.ir_words.specs.Lexemes.{Lexeme}
 use Rattle.ir_words.specs.declared.class.Class.TheVariants as class
 use Rattle.ir_rules.specs.Reading.{Begins, Reads, read_all}
 use Rattle.ir_rules.specs.Rules.{Answer, begins, each, has}
-use Rattle.ir_rules.specs.declared.end.End.{End}
 use Rattle.ir_rules.proofs.Chains.{read_starts}
 use Rattle.ir_rules.proofs.Laws.{Splits}
 use Rattle.ir_rules.proofs.Sets.{within_is}
@@ -20,7 +19,7 @@ use Rattle.ir_body.proofs.BlockLaws.{blocks_law}
 use Rattle.ir_read.specs.Entities.{entities, entity_starts, modules}
 use Rattle.ir_read.specs.FirstBlocks.{IsInFirstBlock, TellsFirstBlock, is_bad, stops_behind, stops_in_block}
 use Rattle.ir_functions.specs.Functions.{Front, openings}
-use Rattle.ir_names.specs.declared.entity.Entity.{Entity}
+use Rattle.ir_entities.specs.declared.entity.Entity.{Entity}
 use Rattle.ir_read.proofs.BlockParts.{entity_bad, module_bad, module_begun, opening_begins}
 use Rattle.ir_read.proofs.EntityLaws.{entities_law, modules_law}
 use Rattle.ir_functions.proofs.FunctionLaws.{openings_law}
@@ -216,7 +215,7 @@ module _ (all rest : List Lexeme) (n : ℕ) (walk : after_items entities n all �
       ends p q = absurd (cc)
 
   -- the same, of an answer
-  pub placed_by : (left : ℕ) → entities.read rest ≡ Err left → (stops : Result Bool End) → IfOk stops (λ b. b ≡ stops_in_block rest)
+  pub placed_by : {E : Type 0} (left : ℕ) → entities.read rest ≡ Err left → (stops : Result Bool E) → IfOk stops (λ b. b ≡ stops_in_block rest)
       → IfOk stops (TellsFirstBlock all)
   placed_by left r (Ok b) e = placed left r b e
   placed_by left r (Err end) e = tt

@@ -11,7 +11,7 @@ use Rattle.ir_rules.specs.Reading.{Reads, read_all}
 use Rattle.ir_rules.proofs.Whole.{accepts, read_all_reads}
 use Rattle.ir_read.specs.Entities.{modules}
 use Rattle.ir_read.specs.Refusals.{Finds, IsModule, IsRefusal, Settles}
-use Rattle.ir_names.specs.declared.entity.Entity.{Entity}
+use Rattle.ir_entities.specs.declared.entity.Entity.{Entity}
 use Rattle.ir_read.proofs.EntityLaws.{modules_law}
 
 pub same_tokens : (read : Result (List Token) ℕ) (a b : List Token) → read ≡ Ok a → read ≡ Ok b → a ≡ b

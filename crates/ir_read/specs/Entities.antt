@@ -1,7 +1,7 @@
 -- What stands at the top of a module (LangRef, "Module Structure").
 use Rattle.std.specs.Prelude.{Option, Some, None, List, [], ◌∷◌, true, false, filter_map, ◌++◌}
 use Rattle.ir_syntax.specs.Types.{TextTree}
-use Rattle.ir_syntax.specs.declared.name.NameUse.{NameUse}
+use Rattle.ir_ident.specs.declared.name.NameUse.{NameUse}
 use Rattle.ir_words.specs.declared.class.Class.{Class}
 use Rattle.ir_words.specs.declared.class.Class.TheVariants as class
 use Rattle.ir_rules.specs.Balance.{enclosed}
@@ -12,8 +12,8 @@ use Rattle.ir_attributes.specs.Attributes.{round_brackets}
 use Rattle.ir_types.specs.Types.{local_uses, structs, types}
 use Rattle.ir_functions.specs.Functions.{declarations, definitions, suffix_goes}
 use Rattle.ir_globals.specs.Variables.{global_entities}
-use Rattle.ir_names.specs.declared.entity.Entity.{Entity}
-use Rattle.ir_names.specs.declared.entity.Entity.TheVariants as entity
+use Rattle.ir_entities.specs.declared.entity.Entity.{Entity}
+use Rattle.ir_entities.specs.declared.entity.Entity.TheVariants as entity
 
 -- "source_filename" = STR
 abbrev pub source_filename : Rule (Unit {0})

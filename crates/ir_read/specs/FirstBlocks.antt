@@ -9,7 +9,7 @@ use Rattle.ir_rules.specs.Rules.{Answer, each}
 use Rattle.ir_body.specs.Blocks.{blocks}
 use Rattle.ir_read.specs.Entities.{entities, modules}
 use Rattle.ir_functions.specs.Functions.{Front, openings}
-use Rattle.ir_names.specs.declared.entity.Entity.{Entity}
+use Rattle.ir_entities.specs.declared.entity.Entity.{Entity}
 
 -- The tokens end inside a first block: behind whole items and the front of a definition up to its `{`
 -- they go on as a first block begins, and are no whole one yet.

@@ -5,14 +5,14 @@ use Rattle.ir_lex.specs.Splitting.{tokens_of}
 use Rattle.ir_lex.specs.declared.kind.Token.{Token}
 use Rattle.ir_syntax.specs.declared.refusal.Refusal.{Refusal}
 use Rattle.ir_syntax.specs.declared.refusal.Refusal.TheVariants.{Form, Lex, NoMemory, Unsupported}
-use Rattle.ir_words.specs.Classes.{first, head_line, head_text, is_table}
+use Rattle.ir_words.specs.Classes.{first, head_line, head_text, is_unsupported}
 use Rattle.ir_words.specs.Lexemes.{Lexeme, lexemes}
 use Rattle.ir_words.specs.declared.class.Class.{Class}
 use Rattle.ir_words.specs.declared.class.Class.TheVariants.{Alloca}
 use Rattle.ir_rules.specs.Reading.{IsFirstBad}
 use Rattle.ir_read.specs.Entities.{modules}
 use Rattle.ir_read.specs.FirstBlocks.{IsInFirstBlock}
-use Rattle.ir_names.specs.declared.entity.Entity.{Entity}
+use Rattle.ir_entities.specs.declared.entity.Entity.{Entity}
 
 -- the line of the last token, or 1 where there is none
 abbrev pub last_line : List Lexeme → ℕ
@@ -22,7 +22,7 @@ last_line ts = fold (λ (line : ℕ) (t : Lexeme). t.line) 1 ts
 -- left, for the end of the text, on a last line.
 abbrev pub refused : ℕ → List Lexeme → Refusal
 refused line ts =
-    if is_table (first ts) then Unsupported (head_line ts) (head_text ts)
+    if is_unsupported (first ts) then Unsupported (head_line ts) (head_text ts)
     else Form (if length ts == 0 then line else head_line ts)
 
 -- the refusal for `alloca` as the first of these tokens: in a first block, where it may stand at other

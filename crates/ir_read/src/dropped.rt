@@ -2,18 +2,18 @@
 //! attributes, and metadata (LangRef, "Module Structure", "Attribute Groups" and "Metadata").
 ghost use Rattle.std.specs.Prelude.{Some, None, if◌then◌else◌};
 ghost use Rattle.ir_words.specs.declared.class.Class.TheVariants.{Datalayout, Distinct, Triple};
-ghost use Rattle.ir_rules.specs.Reading.{Gives};
+ghost use Rattle.ir_rules.specs.Reading.{Gives, GivesExactly};
 ghost use Rattle.ir_rules.specs.Rules.{either, option, word};
 ghost use Rattle.ir_read.specs.Entities.{attribute_group, dropped_entities, metadata, metadata_body, metadata_kind, source_filename, target};
 
 use ir_attributes::skip_round_brackets;
 use ir_rules::{Bracket, End, skip_enclosed, word};
-use ir_words::{Class, Rest};
+use ir_words::{Class, Cursor};
 use std::alloc::Global;
 
 /// Skips the name of the source.
-fn skip_source_filename<'t>(rest: Rest<'t>) -> Result<Rest<'t>, End>
-    ensures { Gives (λ rest. (tt, rest)) result (source_filename.read rest.entry) }
+fn skip_source_filename<'t>(rest: Cursor<'t>) -> Result<Cursor<'t>, End>
+    ensures { GivesExactly (λ rest. (tt, rest)) result (source_filename.read rest.entry) }
 {
     let rest = word(rest, Class::SourceFilename)?;
     let rest = word(rest, Class::Equal)?;
@@ -21,8 +21,8 @@ fn skip_source_filename<'t>(rest: Rest<'t>) -> Result<Rest<'t>, End>
 }
 
 /// Skips what is said about the target.
-fn skip_target_word<'t>(rest: Rest<'t>) -> Result<Rest<'t>, End>
-    ensures { Gives (λ rest. (tt, rest)) result ((either (word Triple) (word Datalayout)).read rest.entry) }
+fn skip_target_word<'t>(rest: Cursor<'t>) -> Result<Cursor<'t>, End>
+    ensures { GivesExactly (λ rest. (tt, rest)) result ((either (word Triple) (word Datalayout)).read rest.entry) }
 {
     match rest.first() {
         Class::Triple => Ok(rest.skip()),
@@ -31,8 +31,8 @@ fn skip_target_word<'t>(rest: Rest<'t>) -> Result<Rest<'t>, End>
 }
 
 /// Skips the triple or the data layout of the target.
-fn skip_target<'t>(rest: Rest<'t>) -> Result<Rest<'t>, End>
-    ensures { Gives (λ rest. (tt, rest)) result (target.read rest.entry) }
+fn skip_target<'t>(rest: Cursor<'t>) -> Result<Cursor<'t>, End>
+    ensures { GivesExactly (λ rest. (tt, rest)) result (target.read rest.entry) }
 {
     let rest = word(rest, Class::Target)?;
     let rest = skip_target_word(rest)?;
@@ -41,7 +41,7 @@ fn skip_target<'t>(rest: Rest<'t>) -> Result<Rest<'t>, End>
 }
 
 /// Skips a group of attributes.
-fn skip_attribute_group<'t>(alloc: Global, rest: Rest<'t>) -> Result<Rest<'t>, End>
+fn skip_attribute_group<'t>(alloc: Global, rest: Cursor<'t>) -> Result<Cursor<'t>, End>
     ensures { Gives (λ rest. (tt, rest)) result (attribute_group.read rest.entry) }
 {
     let rest = word(rest, Class::Attributes)?;
@@ -51,8 +51,8 @@ fn skip_attribute_group<'t>(alloc: Global, rest: Rest<'t>) -> Result<Rest<'t>, E
 }
 
 /// Reads `distinct`, where it stands: whether it does.
-fn read_distinct<'t>(rest: Rest<'t>) -> Result<(bool, Rest<'t>), End>
-    ensures { Gives (λ x. (if x.0 then Some tt else None, x.1)) result ((option (word Distinct)).read rest.entry) }
+fn read_distinct<'t>(rest: Cursor<'t>) -> Result<(bool, Cursor<'t>), End>
+    ensures { GivesExactly (λ x. (if x.0 then Some tt else None, x.1)) result ((option (word Distinct)).read rest.entry) }
 {
     match rest.first() {
         Class::Distinct => Ok((true, rest.skip())),
@@ -61,7 +61,7 @@ fn read_distinct<'t>(rest: Rest<'t>) -> Result<(bool, Rest<'t>), End>
 }
 
 /// Skips a kind of metadata, and its fields.
-fn skip_kind<'t>(alloc: Global, rest: Rest<'t>) -> Result<Rest<'t>, End>
+fn skip_kind<'t>(alloc: Global, rest: Cursor<'t>) -> Result<Cursor<'t>, End>
     ensures { Gives (λ rest. (tt, rest)) result (metadata_kind.read rest.entry) }
 {
     let rest = word(rest, Class::Meta)?;
@@ -72,7 +72,7 @@ fn skip_kind<'t>(alloc: Global, rest: Rest<'t>) -> Result<Rest<'t>, End>
 }
 
 /// Skips what metadata stands for.
-fn skip_metadata_body<'t>(alloc: Global, rest: Rest<'t>) -> Result<Rest<'t>, End>
+fn skip_metadata_body<'t>(alloc: Global, rest: Cursor<'t>) -> Result<Cursor<'t>, End>
     ensures { Gives (λ rest. (tt, rest)) result (metadata_body.read rest.entry) }
 {
     match rest.first() {
@@ -85,7 +85,7 @@ fn skip_metadata_body<'t>(alloc: Global, rest: Rest<'t>) -> Result<Rest<'t>, End
 }
 
 /// Skips the definition of metadata.
-fn skip_metadata<'t>(alloc: Global, rest: Rest<'t>) -> Result<Rest<'t>, End>
+fn skip_metadata<'t>(alloc: Global, rest: Cursor<'t>) -> Result<Cursor<'t>, End>
     ensures { Gives (λ rest. (tt, rest)) result (metadata.read rest.entry) }
 {
     let rest = word(rest, Class::Meta)?;
@@ -100,12 +100,12 @@ fn skip_metadata<'t>(alloc: Global, rest: Rest<'t>) -> Result<Rest<'t>, End>
 ///
 /// `Bad` at the first token that can't stand there, `NoMemory` if memory runs out.
 #[tactic(auto, unfolding(crate::specs::Entities::dropped_forms))]
-pub(crate) fn skip_dropped<'t>(alloc: Global, rest: Rest<'t>) -> Result<Rest<'t>, End>
+pub(crate) fn skip_dropped<'t>(alloc: Global, rest: Cursor<'t>) -> Result<Cursor<'t>, End>
     ensures { Gives (λ rest. (tt, rest)) result (dropped_entities.read rest.entry) }
 {
     match rest.first() {
-        Class::SourceFilename => skip_source_filename(rest),
-        Class::Target => skip_target(rest),
+        Class::SourceFilename => Ok(skip_source_filename(rest)?),
+        Class::Target => Ok(skip_target(rest)?),
         Class::Attributes => skip_attribute_group(alloc, rest),
         _ => skip_metadata(alloc, rest),
     }

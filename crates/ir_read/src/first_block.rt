@@ -7,11 +7,11 @@ use crate::top::{begins_entity, read_entity};
 use ir_body::read_block;
 use ir_functions::read_opening;
 use ir_rules::End;
-use ir_words::Rest;
-use std::alloc::Global;
+use ir_words::Cursor;
+use std::alloc::{AllocError, Global};
 
 /// Whether the front of a definition is read here, and then no first block.
-fn stops_in_block(alloc: Global, rest: Rest<'_>) -> Result<bool, End>
+fn stops_in_block(alloc: Global, rest: Cursor<'_>) -> Result<bool, AllocError>
     ensures { IfOk result (λ stops. stops ≡ stops_in_block rest.entry) }
 {
     match read_opening(alloc, rest) {
@@ -20,12 +20,12 @@ fn stops_in_block(alloc: Global, rest: Rest<'_>) -> Result<bool, End>
             begins_no_block(alloc, rest)
         }
         Err(End::Bad(_)) => Ok(false),
-        Err(End::NoMemory) => Err(End::NoMemory),
+        Err(End::NoMemory) => Err(AllocError),
     }
 }
 
 /// Whether no first block is read here.
-fn begins_no_block(alloc: Global, rest: Rest<'_>) -> Result<bool, End>
+fn begins_no_block(alloc: Global, rest: Cursor<'_>) -> Result<bool, AllocError>
     ensures { IfOk result (λ stops. stops ≡ is_bad ((blocks true).read rest.entry)) }
 {
     match read_block(alloc, rest, true) {
@@ -34,7 +34,7 @@ fn begins_no_block(alloc: Global, rest: Rest<'_>) -> Result<bool, End>
             Ok(false)
         }
         Err(End::Bad(_)) => Ok(true),
-        Err(End::NoMemory) => Err(End::NoMemory),
+        Err(End::NoMemory) => Err(AllocError),
     }
 }
 
@@ -43,8 +43,8 @@ fn begins_no_block(alloc: Global, rest: Rest<'_>) -> Result<bool, End>
 ///
 /// # Errors
 ///
-/// `NoMemory` if memory runs out.
-pub(crate) fn is_in_first_block(alloc: Global, rest: Rest<'_>) -> Result<bool, End>
+/// [`AllocError`].
+pub(crate) fn is_in_first_block(alloc: Global, rest: Cursor<'_>) -> Result<bool, AllocError>
     ensures { IfOk result (TellsFirstBlock rest.entry) }
 {
     let mut rest = rest;
@@ -55,7 +55,7 @@ pub(crate) fn is_in_first_block(alloc: Global, rest: Rest<'_>) -> Result<bool, E
                 after
             }
             Err(End::Bad(_)) => return stops_in_block(alloc, rest),
-            Err(End::NoMemory) => return Err(End::NoMemory),
+            Err(End::NoMemory) => return Err(AllocError),
         };
     }
     Ok(false)

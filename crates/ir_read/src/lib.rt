@@ -7,6 +7,6 @@ mod module;
 mod reading;
 mod top;
 
-pub use ir_names::{Entities, Entity};
+pub use ir_entities::{Entities, Entity};
 pub use module::{read_module, texts_have_one_answer};
 pub use reading::read_entities;

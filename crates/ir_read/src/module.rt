@@ -6,7 +6,8 @@ ghost use Rattle.ir_syntax.specs.declared.refusal.Refusal.{Refusal};
 ghost use Rattle.ir_syntax.specs.declared.refusal.Refusal.TheVariants.{NoMemory};
 
 use crate::reading::read_entities;
-use ir_names::{Entities, NamesEnd, resolve};
+use ir_entities::Entities;
+use ir_names::{NamesEnd, resolve};
 use ir_syntax::{Module, Refusal};
 use std::alloc::Global;
 

@@ -6,19 +6,19 @@ ghost use Rattle.ir_syntax.specs.declared.refusal.Refusal.TheVariants.{Unsupport
 ghost use Rattle.ir_rules.specs.Reading.{Gives, read_all};
 ghost use Rattle.ir_read.specs.Entities.{modules};
 ghost use Rattle.ir_read.specs.Refusals.{Finds, IsModule, IsRefusal, IsRefusedAt, Settles, last_line, refused, refused_alloca};
-ghost use Rattle.ir_names.specs.declared.entity.Entity.{Entity};
+ghost use Rattle.ir_entities.specs.declared.entity.Entity.{Entity};
 
 use crate::first_block::is_in_first_block;
 use crate::top::read_items;
+use ir_entities::Entities;
 use ir_lex::{LexEnd, tokens};
-use ir_names::Entities;
 use ir_rules::{End, bad};
 use ir_syntax::{Bytes, Refusal};
-use ir_words::{Class, Rest, is_table};
+use ir_words::{Class, Cursor, is_unsupported};
 use std::alloc::{AllocError, Global};
 
 /// The line of the last token, or 1 where there is none.
-fn last_line(rest: Rest<'_>) -> u32
+fn last_line(rest: Cursor<'_>) -> u32
     ensures { result ≡ last_line rest.entry }
 {
     let mut rest = rest;
@@ -31,7 +31,7 @@ fn last_line(rest: Rest<'_>) -> u32
 }
 
 /// The tokens from the first bad one on, of which there are so many.
-fn from_bad<'t>(rest: Rest<'t>, left: usize) -> Rest<'t>
+fn from_bad<'t>(rest: Cursor<'t>, left: usize) -> Cursor<'t>
     ensures { result ≡ drop (length rest.entry - left) rest.entry }
 {
     let mut rest = rest;
@@ -42,7 +42,7 @@ fn from_bad<'t>(rest: Rest<'t>, left: usize) -> Rest<'t>
 }
 
 /// The refusal for the first of these tokens, as a word of the language that is left out.
-fn left_out(alloc: Global, rest: Rest<'_>) -> Result<Refusal, AllocError>
+fn left_out(alloc: Global, rest: Cursor<'_>) -> Result<Refusal, AllocError>
     ensures { IfOk result (λ e. e ≡ Unsupported (head_line rest.entry) (head_text rest.entry)) }
 {
     let word = rest.text().to_vec(alloc)?;
@@ -54,10 +54,10 @@ fn left_out(alloc: Global, rest: Rest<'_>) -> Result<Refusal, AllocError>
 
 /// The refusal for the first of these tokens; where none is left, for the end of the text, on a last
 /// line.
-fn refused(alloc: Global, line: u32, rest: Rest<'_>) -> Result<Refusal, AllocError>
+fn refused(alloc: Global, line: u32, rest: Cursor<'_>) -> Result<Refusal, AllocError>
     ensures { IfOk result (λ e. e ≡ refused line rest.entry) }
 {
-    if is_table(rest.first()) {
+    if is_unsupported(rest.first()) {
         return left_out(alloc, rest);
     }
     if rest.is_empty() {
@@ -67,7 +67,7 @@ fn refused(alloc: Global, line: u32, rest: Rest<'_>) -> Result<Refusal, AllocErr
 }
 
 /// The refusal for `alloca` as the first of these tokens, in a first block or not.
-fn refused_alloca(alloc: Global, inside: bool, rest: Rest<'_>) -> Result<Refusal, AllocError>
+fn refused_alloca(alloc: Global, inside: bool, rest: Cursor<'_>) -> Result<Refusal, AllocError>
     ensures { IfOk result (λ e. e ≡ refused_alloca inside rest.entry) }
 {
     if inside {
@@ -77,7 +77,7 @@ fn refused_alloca(alloc: Global, inside: bool, rest: Rest<'_>) -> Result<Refusal
 }
 
 /// The refusal for the first bad token of all, from which on so many are left.
-fn refused_at(alloc: Global, all: Rest<'_>, left: usize) -> Result<Refusal, End>
+fn refused_at(alloc: Global, all: Cursor<'_>, left: usize) -> Result<Refusal, AllocError>
     ensures { IfOk result (λ e. read_all modules all.entry ≡ Err left
         → IsRefusedAt all.entry (length all.entry - left) e) }
 {
@@ -86,14 +86,14 @@ fn refused_at(alloc: Global, all: Rest<'_>, left: usize) -> Result<Refusal, End>
     match rest.first() {
         Class::Alloca => {
             let inside = is_in_first_block(alloc, all)?;
-            Ok(refused_alloca(alloc, inside, rest)?)
+            refused_alloca(alloc, inside, rest)
         }
-        _ => Ok(refused(alloc, line, rest)?),
+        _ => refused(alloc, line, rest),
     }
 }
 
 /// Reads all tokens as the items of a module.
-fn read_whole(alloc: Global, rest: Rest<'_>) -> Result<Entities, End>
+fn read_whole(alloc: Global, rest: Cursor<'_>) -> Result<Entities, End>
     ensures { Gives (λ x. x) result (read_all modules rest.entry) }
 {
     let (list, rest) = read_items(alloc, rest)?;
@@ -104,7 +104,7 @@ fn read_whole(alloc: Global, rest: Rest<'_>) -> Result<Entities, End>
 }
 
 /// Reads all tokens as the items of a module, or tells the first bad one.
-fn read_lexed(alloc: Global, rest: Rest<'_>) -> Result<Entities, Refusal>
+fn read_lexed(alloc: Global, rest: Cursor<'_>) -> Result<Entities, Refusal>
     ensures { Settles rest.entry (read_all modules rest.entry) result }
 {
     let all = rest.copy();
@@ -138,5 +138,5 @@ pub fn read_entities(alloc: Global, bytes: &[u8]) -> Result<Entities, Refusal>
         Err(LexEnd::Lex { line }) => return Err(Refusal::Lex { line }),
         Err(LexEnd::NoMemory) => return Err(Refusal::NoMemory),
     };
-    read_lexed(alloc, Rest::of(bytes, &tokens))
+    read_lexed(alloc, Cursor::of(bytes, &tokens))
 }

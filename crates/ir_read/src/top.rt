@@ -6,18 +6,19 @@ ghost use Rattle.ir_rules.specs.Rules.{has};
 ghost use Rattle.ir_read.specs.Entities.{entities, entity_starts, kept_entities, modules, nothing_kept, type_defs};
 
 use crate::dropped::skip_dropped;
+use ir_entities::Entity;
 use ir_functions::{read_declaration, read_definition};
 use ir_globals::read_global_entity;
-use ir_names::Entity;
+use ir_ident::NameUse;
 use ir_rules::{End, word};
-use ir_syntax::{NameUse, TypeDef};
+use ir_syntax::TypeDef;
 use ir_types::{read_local_use, read_struct};
-use ir_words::{Class, Rest};
+use ir_words::{Class, Cursor};
 use std::alloc::Global;
 
 /// Reads the definition of a type's name.
 #[tactic(auto, unfolding(crate::specs::Entities::type_def_forms))]
-fn read_type_def<'t>(alloc: Global, rest: Rest<'t>) -> Result<(Entity, Rest<'t>), End>
+fn read_type_def<'t>(alloc: Global, rest: Cursor<'t>) -> Result<(Entity, Cursor<'t>), End>
     ensures { Gives (λ x. (Some x.0, x.1)) result (type_defs.read rest.entry) }
 {
     let (place, rest) = read_local_use(alloc, rest)?;
@@ -29,7 +30,7 @@ fn read_type_def<'t>(alloc: Global, rest: Rest<'t>) -> Result<(Entity, Rest<'t>)
 }
 
 /// Reads an item that is kept.
-fn read_kept<'t>(alloc: Global, rest: Rest<'t>) -> Result<(Option<Entity>, Rest<'t>), End>
+fn read_kept<'t>(alloc: Global, rest: Cursor<'t>) -> Result<(Option<Entity>, Cursor<'t>), End>
     ensures { Gives (λ x. x) result (kept_entities.read rest.entry) }
 {
     match rest.first() {
@@ -50,7 +51,7 @@ fn read_kept<'t>(alloc: Global, rest: Rest<'t>) -> Result<(Option<Entity>, Rest<
 }
 
 /// Reads an item of which nothing is kept.
-fn read_dropped<'t>(alloc: Global, rest: Rest<'t>) -> Result<(Option<Entity>, Rest<'t>), End>
+fn read_dropped<'t>(alloc: Global, rest: Cursor<'t>) -> Result<(Option<Entity>, Cursor<'t>), End>
     ensures { Gives (λ x. x) result (nothing_kept.read rest.entry) }
 {
     let rest = skip_dropped(alloc, rest)?;
@@ -75,8 +76,8 @@ fn begins_dropped(class: Class) -> bool
 #[tactic(auto, unfolding(crate::specs::Entities::entity_forms))]
 pub(crate) fn read_entity<'t>(
     alloc: Global,
-    rest: Rest<'t>,
-) -> Result<(Option<Entity>, Rest<'t>), End>
+    rest: Cursor<'t>,
+) -> Result<(Option<Entity>, Cursor<'t>), End>
     ensures { Gives (λ x. x) result (entities.read rest.entry) }
 {
     if begins_dropped(rest.first()) {
@@ -122,7 +123,10 @@ fn keep(list: &mut Vec<Entity>, found: Option<Entity>) -> Result<(), End>
 ///
 /// `Bad` at the first token that can't stand there, `NoMemory` if memory runs out.
 #[tactic(auto, unfolding(crate::specs::Entities::module_forms))]
-pub(crate) fn read_items<'t>(alloc: Global, rest: Rest<'t>) -> Result<(Vec<Entity>, Rest<'t>), End>
+pub(crate) fn read_items<'t>(
+    alloc: Global,
+    rest: Cursor<'t>,
+) -> Result<(Vec<Entity>, Cursor<'t>), End>
     ensures { Gives (λ x. (x.0.items, x.1)) result (modules.read rest.entry) }
 {
     let mut rest = rest;

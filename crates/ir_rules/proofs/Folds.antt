@@ -7,7 +7,7 @@ use Rattle.ir_words.specs.Lexemes.{Lexeme}
 use Rattle.ir_words.specs.declared.class.Class.{Class}
 use Rattle.ir_words.specs.declared.class.Class.TheVariants as Classes
 use Rattle.ir_rules.specs.Rules.{Answer, Rule, ◌>>=◌, apart, begins, commas_some, each, has, ◌▷◌, with_item}
-use Rattle.ir_rules.specs.Reading.{Gives}
+use Rattle.ir_rules.specs.Reading.{Gives, GivesExactly}
 use Rattle.ir_rules.specs.declared.end.End.{End}
 use Rattle.ir_rules.specs.declared.end.End.TheVariants.{NoMemory, Bad}
 use Rattle.ir_rules.proofs.Chains.{chain_ends, chain_goes, item_and, read_starts}
@@ -19,6 +19,18 @@ pub passes_on : {T U A B : Type 0} (view : T → B) (part_view : U → A) (e : E
     → result ≡ Err e → ((n : ℕ) → part ≡ Err n → whole ≡ Err n) → Gives part_view (Err e) part → Gives view result whole
 passes_on view part_view NoMemory result part whole is on g = subst (λ r. Gives view r whole) (sym is) tt
 passes_on view part_view (Bad n) result part whole is on g = subst (λ r. Gives view r whole) (sym is) (on n g)
+
+-- the same of a reader that takes no memory
+pub passes_on_exactly : {T U A B : Type 0} (view : T → B) (part_view : U → A) (e : End) (result : Result T End) (part : Result A ℕ) (whole : Result B ℕ)
+    → result ≡ Err e → ((n : ℕ) → part ≡ Err n → whole ≡ Err n) → GivesExactly part_view (Err e) part → GivesExactly view result whole
+passes_on_exactly view part_view NoMemory result part whole is on never = absurd never
+passes_on_exactly view part_view (Bad n) result part whole is on g = subst (λ r. GivesExactly view r whole) (sym is) (on n g)
+
+-- what is given exactly is given
+pub exactly_gives : {T A : Type 0} (view : T → A) (result : Result T End) (read : Result A ℕ) → GivesExactly view result read → Gives view result read
+exactly_gives view (Ok x) read g = g
+exactly_gives view (Err NoMemory) read never = absurd never
+exactly_gives view (Err (Bad left)) read g = g
 
 -- an answer whose items give one tree
 abbrev pub gathered : {A B : Type 0} → (List A → B) → Answer (List A) → Answer B
@@ -88,6 +100,12 @@ module _ {A B : Type 0} (a : Rule A) (la : Lawful a) (some : a.empty ≡ false) 
   folded_err view part_view e result state ts whole is b g inv =
       passes_on view part_view e result (a.read ts) whole is (λ n r. folded_bad state ts whole n inv b r) g
 
+  pub folded_err_exactly : {T U : Type 0} (view : T → B × List Lexeme) (part_view : U → A × List Lexeme) (e : End) (result : Result T End) (state : B)
+      (ts : List Lexeme) (whole : Answer B) → result ≡ Err e → begins a.starts ts ≡ true → GivesExactly part_view (Err e) (a.read ts)
+      → folded f state ((each a).read ts) ≡ whole → GivesExactly view result whole
+  folded_err_exactly view part_view e result state ts whole is b g inv =
+      passes_on_exactly view part_view e result (a.read ts) whole is (λ n r. folded_bad state ts whole n inv b r) g
+
   pub folded_push : (state next : B) (x : A) (ts after : List Lexeme) (whole : Answer B) → next ≡ f state x → a.read ts ≡ Ok (x, after)
       → folded f state ((each a).read ts) ≡ whole → folded f next ((each a).read after) ≡ whole
   folded_push state next x ts after whole is r inv =
@@ -106,6 +124,12 @@ module _ {A : Type 0} (a : Rule A) (la : Lawful a) (some : a.empty ≡ false) (o
       (ts : List Lexeme) (whole : Answer (Unit {0})) → result ≡ Err e → begins a.starts ts ≡ true → Gives part_view (Err e) (a.read ts)
       → skipped ((each a).read ts) ≡ whole → Gives view result whole
   skipped_err view part_view e result ts whole is b g inv = passes_on view part_view e result (a.read ts) whole is (λ n r. skipped_bad ts whole n inv b r) g
+
+  pub skipped_err_exactly : {T U : Type 0} (view : T → Unit {0} × List Lexeme) (part_view : U → A × List Lexeme) (e : End) (result : Result T End)
+      (ts : List Lexeme) (whole : Answer (Unit {0})) → result ≡ Err e → begins a.starts ts ≡ true → GivesExactly part_view (Err e) (a.read ts)
+      → skipped ((each a).read ts) ≡ whole → GivesExactly view result whole
+  skipped_err_exactly view part_view e result ts whole is b g inv =
+      passes_on_exactly view part_view e result (a.read ts) whole is (λ n r. skipped_bad ts whole n inv b r) g
 
   pub skipped_push : (x : A) (ts after : List Lexeme) (whole : Answer (Unit {0})) → a.read ts ≡ Ok (x, after)
       → skipped ((each a).read ts) ≡ whole → skipped ((each a).read after) ≡ whole
@@ -126,6 +150,12 @@ module _ {A : Type 0} (class : Class) (a : Rule A) (la : Lawful (class ▷ a)) (
       → Gives part_view (Err e) (a.read (drop 1 ts)) → skipped ((each (class ▷ a)).read ts) ≡ whole → Gives view result whole
   led_skipped_err view part_view e result ts whole is f c g inv =
       passes_on view part_view e result (a.read (drop 1 ts)) whole is (λ n r. led_skipped_bad ts whole n inv f c r) g
+
+  pub led_skipped_err_exactly : {T U : Type 0} (view : T → Unit {0} × List Lexeme) (part_view : U → A × List Lexeme) (e : End) (result : Result T End)
+      (ts : List Lexeme) (whole : Answer (Unit {0})) → result ≡ Err e → true ≡ (number (first ts) == number class) → has (class ∷ []) class ≡ true
+      → GivesExactly part_view (Err e) (a.read (drop 1 ts)) → skipped ((each (class ▷ a)).read ts) ≡ whole → GivesExactly view result whole
+  led_skipped_err_exactly view part_view e result ts whole is f c g inv =
+      passes_on_exactly view part_view e result (a.read (drop 1 ts)) whole is (λ n r. led_skipped_bad ts whole n inv f c r) g
 
   pub led_skipped_push : (x : A) (ts after : List Lexeme) (whole : Answer (Unit {0})) → true ≡ (number (first ts) == number class) → a.read (drop 1 ts) ≡ Ok (x, after)
       → skipped ((each (class ▷ a)).read ts) ≡ whole → skipped ((each (class ▷ a)).read after) ≡ whole

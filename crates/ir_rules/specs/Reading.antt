@@ -40,6 +40,12 @@ Gives view (Ok x) read = read ≡ Ok (view x)
 Gives view (Err NoMemory) read = Unit {0}
 Gives view (Err (Bad left)) read = read ≡ Err left
 
+-- What is answered is what is read. A reader that takes no memory answers so.
+abbrev pub GivesExactly : {T A : Type 0} → (T → A) → Result T End → Result A ℕ → Type 0
+GivesExactly view (Ok x) read = read ≡ Ok (view x)
+GivesExactly view (Err NoMemory) read = ⊥
+GivesExactly view (Err (Bad left)) read = read ≡ Err left
+
 -- What is read at the front: the tokens are a text with this tree and then the rest, and no text at
 -- the front has more tokens.
 pub record IsFront {A : Type 0} (r : Rule A) (ts : List Lexeme) (x : A) (rest : List Lexeme) : Type 0 where

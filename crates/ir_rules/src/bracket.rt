@@ -19,7 +19,7 @@ pub enum Bracket {
 
 /// What a token is among brackets.
 #[derive(Clone, Copy, Debug, PartialEq, Eq)]
-pub enum Role {
+pub(crate) enum Role {
     /// It opens one.
     Opens(Bracket),
     /// It closes one.
@@ -29,7 +29,7 @@ pub enum Role {
 }
 
 /// The class of the bracket that opens.
-pub fn opener(bracket: Bracket) -> Class
+pub(crate) fn opener(bracket: Bracket) -> Class
     ensures { result ≡ opener bracket }
 {
     match bracket {
@@ -41,7 +41,7 @@ pub fn opener(bracket: Bracket) -> Class
 }
 
 /// What a token of a class is among brackets.
-pub fn role_of(class: Class) -> Role
+pub(crate) fn role_of(class: Class) -> Role
     ensures { result ≡ role_of class }
 {
     match class {

@@ -6,7 +6,7 @@ ghost use Rattle.ir_rules.specs.Reading.{Gives};
 use crate::bracket::{Bracket, Role, opener, role_of};
 use crate::end::End;
 use crate::token::{bad, word};
-use ir_words::Rest;
+use ir_words::Cursor;
 use std::alloc::{AllocError, Global};
 
 /// Skips a bracket, all up to the one that closes it, and that one.
@@ -15,7 +15,11 @@ use std::alloc::{AllocError, Global};
 ///
 /// `Bad` at the first token that is no such bracket or closes one that is not the last open one, or
 /// at the end.
-pub fn skip_enclosed<'t>(alloc: Global, rest: Rest<'t>, bracket: Bracket) -> Result<Rest<'t>, End>
+pub fn skip_enclosed<'t>(
+    alloc: Global,
+    rest: Cursor<'t>,
+    bracket: Bracket,
+) -> Result<Cursor<'t>, End>
     ensures { Gives (λ rest. (tt, rest)) result ((enclosed bracket).read rest.entry) }
 {
     let mut rest = word(rest, opener(bracket))?;

@@ -7,7 +7,7 @@ mod enclosed;
 mod end;
 mod token;
 
-pub use bracket::{Bracket, Role, opener, role_of};
+pub use bracket::Bracket;
 pub use enclosed::skip_enclosed;
 pub use end::End;
 pub use token::{bad, word};

@@ -1,4 +1,2 @@
 pub mod Fields
-pub mod NameLemmas
-pub mod NumberLemmas
 pub mod Parts

@@ -6,7 +6,7 @@ use Rattle.ir_syntax.specs.declared.operand.ConstantGep.{ConstantGep}
 use Rattle.ir_syntax.specs.declared.operand.Operand.{Operand}
 use Rattle.ir_syntax.specs.declared.operand.Operand.TheVariants.{Local, Global, Int, True, False, Null, Undef, Poison, Gep}
 use Rattle.ir_syntax.specs.declared.operand.TypedLiteral.{TypedLiteral}
-use Rattle.ir_syntax.specs.Codes.{first, second, number_back, bool_code, bool_back, bool_back_code, bytes_code, bytes_back, bytes_back_code, use_code, use_back, use_back_code}
+use Rattle.ir_ident.specs.Codes.{first, second, number_back, bool_code, bool_back, bool_back_code, bytes_code, bytes_back, bytes_back_code, use_code, use_back, use_back_code}
 use Rattle.ir_syntax.specs.Inits.{InitText, value, zeros, bytes, array, struct, packed, InitTexts, end, more}
 use Rattle.ir_syntax.specs.TypeCodes.{to_code, from_code, tree_back_code}
 

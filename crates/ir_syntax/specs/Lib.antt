@@ -1,11 +1,8 @@
-pub mod Codes
+pub mod Definitions
 pub mod InitCodes
 pub mod InitLists
 pub mod Inits
+pub mod Lines
 pub mod Literals
-pub mod NameMaps
-pub mod Names
-pub mod Numbers
-pub mod Spellings
 pub mod TypeCodes
 pub mod Types

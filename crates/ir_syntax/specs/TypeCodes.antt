@@ -1,7 +1,7 @@
 -- Types as trees of numbers, and back: so two types can be told apart.
 use Rattle.std.proofs.Common.{◌≡◌, ◌∙◌, refl, sym, ap}
 use base.Stored.{Gv, gnil, gnum, gcons, Coded}
-use Rattle.ir_syntax.specs.Codes.{bool_code, bool_back, bool_back_code, use_code, use_back, use_back_code}
+use Rattle.ir_ident.specs.Codes.{bool_code, bool_back, bool_back_code, use_code, use_back, use_back_code}
 use Rattle.ir_syntax.specs.Types.{TextTree, int, ptr, array, struct, named, TextTrees, end, more}
 
 abbrev mutual

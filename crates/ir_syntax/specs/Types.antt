@@ -1,6 +1,6 @@
 -- Types as plain trees: what the text writes of a type, without the boxes that it is kept in.
 use Rattle.std.specs.Prelude.{ℕ, Bool, List, [], ◌∷◌}
-use Rattle.ir_syntax.specs.declared.name.NameUse.{NameUse}
+use Rattle.ir_ident.specs.declared.name.NameUse.{NameUse}
 use Rattle.ir_syntax.specs.declared.tree.TypeTree.{TypeTree}
 use Rattle.ir_syntax.specs.declared.tree.TypeTree.TheVariants.{Int, Ptr, Array', Struct', Named}
 use Rattle.ir_syntax.specs.declared.tree.TypeTreeList.{TypeTreeList}

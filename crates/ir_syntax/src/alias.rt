@@ -2,9 +2,9 @@
 ghost use Rattle.std.specs.Prelude.{◌≡◌};
 
 use crate::linkage::{Linkage, Visibility};
-use crate::name::{Name, NameUse};
 use crate::operand::ConstantGep;
 use crate::ty::{TyText, TypeTexts};
+use ir_ident::{Name, NameUse};
 use std::marker::Model;
 
 /// What an alias stands for.
@@ -93,12 +93,5 @@ impl Aliases {
         ensures { result.now ≡ self.now }
     {
         self.aliases.as_slice()
-    }
-
-    /// The aliases in order, to be taken apart.
-    pub fn into_vec(self) -> Vec<Alias>
-        ensures { result.items ≡ self }
-    {
-        self.aliases
     }
 }

@@ -2,9 +2,9 @@
 ghost use Rattle.std.specs.Prelude.{◌≡◌};
 
 use crate::instr::Instrs;
-use crate::name::Name;
 use crate::phi::Phis;
 use crate::term::Term;
+use ir_ident::Name;
 use std::marker::Model;
 
 /// A basic block.

@@ -3,8 +3,8 @@ ghost use Rattle.std.specs.Prelude.{◌≡◌};
 
 use crate::block::Blocks;
 use crate::linkage::{Linkage, Visibility};
-use crate::name::Name;
 use crate::ty::TyText;
+use ir_ident::Name;
 use std::marker::Model;
 
 /// A parameter of a function.
@@ -117,12 +117,5 @@ impl Functions {
         ensures { result.now ≡ self.now }
     {
         self.functions.as_slice()
-    }
-
-    /// The functions in order, to be taken apart.
-    pub fn into_vec(self) -> Vec<Function>
-        ensures { result.items ≡ self }
-    {
-        self.functions
     }
 }

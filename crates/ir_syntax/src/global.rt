@@ -3,8 +3,8 @@ ghost use Rattle.std.specs.Prelude.{◌≡◌};
 
 use crate::init::Init;
 use crate::linkage::{Linkage, Visibility};
-use crate::name::Name;
 use crate::ty::TyText;
+use ir_ident::Name;
 use std::marker::Model;
 
 /// A global variable, defined or declared.
@@ -78,12 +78,5 @@ impl Globals {
         ensures { result.now ≡ self.now }
     {
         self.globals.as_slice()
-    }
-
-    /// The variables in order, to be taken apart.
-    pub fn into_vec(self) -> Vec<Global>
-        ensures { result.items ≡ self }
-    {
-        self.globals
     }
 }

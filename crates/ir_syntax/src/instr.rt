@@ -1,10 +1,10 @@
 //! Instructions other than phis and terminators (LangRef, "Instruction Reference").
 ghost use Rattle.std.specs.Prelude.{◌≡◌};
 
-use crate::name::{Name, NameUse};
 use crate::operand::{Operand, TypedLiteral, TypedOperands};
 use crate::ty::{TyText, TypeTexts};
 use cg_num::{BinOp, Pred};
+use ir_ident::{Name, NameUse};
 use std::marker::Model;
 
 /// A conversion (LangRef, "Conversion Operations").
@@ -79,13 +79,6 @@ impl Args {
         ensures { result.now ≡ self.now }
     {
         self.args.as_slice()
-    }
-
-    /// The arguments in order, to be taken apart.
-    pub fn into_vec(self) -> Vec<Arg>
-        ensures { result.items ≡ self }
-    {
-        self.args
     }
 }
 

@@ -2,8 +2,8 @@
 ghost use Rattle.std.specs.Prelude.{◌≡◌, IfOk};
 
 use crate::literal::Literal;
-use crate::name::NameUse;
 use crate::ty::TyText;
+use ir_ident::NameUse;
 use std::alloc::{AllocError, Global};
 use std::marker::Model;
 
@@ -55,13 +55,6 @@ impl TypedLiterals {
         ensures { result.now ≡ self.now }
     {
         self.literals.as_slice()
-    }
-
-    /// The literals in order, to be taken apart.
-    pub fn into_vec(self) -> Vec<TypedLiteral>
-        ensures { result.items ≡ self }
-    {
-        self.literals
     }
 }
 
@@ -205,12 +198,5 @@ impl TypedOperands {
         ensures { result.now ≡ self.now }
     {
         self.operands.as_slice()
-    }
-
-    /// The operands in order, to be taken apart.
-    pub fn into_vec(self) -> Vec<TypedOperand>
-        ensures { result.items ≡ self }
-    {
-        self.operands
     }
 }

@@ -1,9 +1,9 @@
 //! Phi instructions (LangRef, "'phi' Instruction").
 ghost use Rattle.std.specs.Prelude.{◌≡◌};
 
-use crate::name::{Name, NameUse};
 use crate::operand::Operand;
 use crate::ty::TyText;
+use ir_ident::{Name, NameUse};
 use std::marker::Model;
 
 /// The value of a phi where one block comes before.
@@ -55,13 +55,6 @@ impl PhiEntries {
         ensures { result.now ≡ self.now }
     {
         self.entries.as_slice()
-    }
-
-    /// The entries in order, to be taken apart.
-    pub fn into_vec(self) -> Vec<PhiEntry>
-        ensures { result.items ≡ self }
-    {
-        self.entries
     }
 }
 

@@ -2,9 +2,9 @@
 ghost use Rattle.std.specs.Prelude.{◌≡◌};
 
 use crate::literal::Literal;
-use crate::name::NameUse;
 use crate::operand::Operand;
 use crate::ty::TyText;
+use ir_ident::NameUse;
 use std::marker::Model;
 
 /// A case of a `switch`.
@@ -62,13 +62,6 @@ impl Cases {
         ensures { result.now ≡ self.now }
     {
         self.cases.as_slice()
-    }
-
-    /// The cases in order, to be taken apart.
-    pub fn into_vec(self) -> Vec<Case>
-        ensures { result.items ≡ self }
-    {
-        self.cases
     }
 }
 

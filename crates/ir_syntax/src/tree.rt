@@ -1,5 +1,5 @@
 //! Types as trees of what the text writes (LangRef, "Type System").
-use crate::name::NameUse;
+use ir_ident::NameUse;
 
 /// A type as written. It is small, since most values that the text writes have one beside them: all but the smallest parts
 /// are in a box. [`TyText`](crate::TyText) is what contracts see as one value.

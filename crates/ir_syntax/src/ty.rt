@@ -2,8 +2,8 @@
 ghost use Rattle.std.specs.Prelude.{◌≡◌, IfOk};
 ghost use Rattle.ir_syntax.specs.Types.{array, int, list_of, named, ptr, struct, tree_of, trees_from, trees_in};
 
-use crate::name::NameUse;
 use crate::tree::{TypeNode, TypeTree, TypeTreeList};
+use ir_ident::NameUse;
 use std::alloc::{AllocError, Global};
 use std::marker::Model;
 

@@ -1,8 +1,8 @@
 //! Named types (LangRef, "Structure Type").
 ghost use Rattle.std.specs.Prelude.{◌≡◌};
 
-use crate::name::Name;
 use crate::ty::TyText;
+use ir_ident::Name;
 use std::marker::Model;
 
 /// The definition of a type's name.
@@ -60,12 +60,5 @@ impl TypeDefs {
         ensures { result.now ≡ self.now }
     {
         self.types.as_slice()
-    }
-
-    /// The definitions in order, to be taken apart.
-    pub fn into_vec(self) -> Vec<TypeDef>
-        ensures { result.items ≡ self }
-    {
-        self.types
     }
 }

@@ -1,8 +1,8 @@
 -- The rules of terminators keep the laws.
 use Rattle.std.proofs.Common.{refl}
-use Rattle.ir_syntax.specs.declared.name.NameUse.{NameUse}
+use Rattle.ir_ident.specs.declared.name.NameUse.{NameUse}
 use Rattle.ir_syntax.specs.declared.operand.TypedOperand.{TypedOperand}
-use Rattle.ir_terms.specs.declared.ending.Ending.TheVariants as form
+use Rattle.ir_terms.specs.declared.term_body.TermBody.TheVariants as form
 use Rattle.ir_words.specs.declared.class.Class.TheVariants as class
 use Rattle.ir_rules.proofs.Chains.{each_lawful}
 use Rattle.ir_rules.proofs.Laws.{Lawful, either_lawful, made_lawful, seq_lawful, within_lawful}

@@ -1,7 +1,7 @@
 -- Phis (LangRef, "'phi' Instruction").
 use Rattle.std.specs.Prelude.{ℕ, Option, Some, None, List, [], ◌∷◌, Bool, false, true, filter_map}
 use Rattle.ir_syntax.specs.Types.{TextTree}
-use Rattle.ir_syntax.specs.declared.name.NameUse.{NameUse}
+use Rattle.ir_ident.specs.declared.name.NameUse.{NameUse}
 use Rattle.ir_syntax.specs.declared.operand.Operand.{Operand}
 use Rattle.ir_syntax.specs.declared.phi.PhiEntry.{PhiEntry}
 use Rattle.ir_words.specs.declared.class.Class.TheVariants as class

@@ -3,8 +3,8 @@
 //! says, up to the first bad token.
 #![tactic(auto)]
 
-mod ending;
 mod phis;
+mod term_body;
 mod terms;
 
 pub use phis::read_phi;

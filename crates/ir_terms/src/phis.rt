@@ -7,15 +7,16 @@ ghost use Rattle.ir_types.specs.Types.{local_uses};
 ghost use Rattle.ir_words.specs.declared.class.Class.TheVariants.{CloseSquare, Comma};
 
 use ir_attributes::read_attachment;
+use ir_ident::NameUse;
 use ir_rules::{End, word};
-use ir_syntax::{NameUse, PhiEntries, PhiEntry, TyText};
+use ir_syntax::{PhiEntries, PhiEntry, TyText};
 use ir_types::{read_local_use, read_type};
 use ir_values::read_operand;
-use ir_words::{Class, Rest};
+use ir_words::{Class, Cursor};
 use std::alloc::{AllocError, Global};
 
 /// Reads the name of a block behind a comma, and `]`.
-fn read_origin<'t>(alloc: Global, rest: Rest<'t>) -> Result<(NameUse, Rest<'t>), End>
+fn read_origin<'t>(alloc: Global, rest: Cursor<'t>) -> Result<(NameUse, Cursor<'t>), End>
     ensures { Gives (λ x. x) result ((Comma ▷ local_uses ◁ CloseSquare).read rest.entry) }
 {
     let rest = word(rest, Class::Comma)?;
@@ -26,7 +27,7 @@ fn read_origin<'t>(alloc: Global, rest: Rest<'t>) -> Result<(NameUse, Rest<'t>),
 
 /// Reads an entry: a value and the block that it comes from.
 #[tactic(auto, unfolding(crate::specs::Phis::phi_entry_forms))]
-fn read_phi_entry<'t>(alloc: Global, rest: Rest<'t>) -> Result<(PhiEntry, Rest<'t>), End>
+fn read_phi_entry<'t>(alloc: Global, rest: Cursor<'t>) -> Result<(PhiEntry, Cursor<'t>), End>
     ensures { Gives (λ x. x) result (phi_entries.read rest.entry) }
 {
     let rest = word(rest, Class::OpenSquare)?;
@@ -39,8 +40,8 @@ fn read_phi_entry<'t>(alloc: Global, rest: Rest<'t>) -> Result<(PhiEntry, Rest<'
 #[tactic(auto, unfolding(crate::specs::Phis::further_forms))]
 fn read_entry_or_metadata<'t>(
     alloc: Global,
-    rest: Rest<'t>,
-) -> Result<(Option<PhiEntry>, Rest<'t>), End>
+    rest: Cursor<'t>,
+) -> Result<(Option<PhiEntry>, Cursor<'t>), End>
     ensures { Gives (λ x. x) result (further_forms.read rest.entry) }
 {
     let rest = word(rest, Class::Comma)?;
@@ -60,9 +61,9 @@ fn read_entry_or_metadata<'t>(
 #[tactic(auto, unfolding(crate::specs::Phis::further))]
 fn read_further<'t>(
     alloc: Global,
-    rest: Rest<'t>,
+    rest: Cursor<'t>,
     entries: bool,
-) -> Result<(Option<PhiEntry>, Rest<'t>), End>
+) -> Result<(Option<PhiEntry>, Cursor<'t>), End>
     ensures { Gives (λ x. x) result ((further entries).read rest.entry) }
 {
     if entries {
@@ -95,7 +96,10 @@ fn is_entry(before: bool, found: &Option<PhiEntry>) -> bool
 
 /// Reads the entries after the first one, and metadata.
 #[tactic(auto, unfolding(crate::specs::Phis::further_list))]
-fn read_further_entries<'t>(alloc: Global, rest: Rest<'t>) -> Result<(Vec<PhiEntry>, Rest<'t>), End>
+fn read_further_entries<'t>(
+    alloc: Global,
+    rest: Cursor<'t>,
+) -> Result<(Vec<PhiEntry>, Cursor<'t>), End>
     ensures { Gives (λ x. (x.0.items, x.1)) result (further_entries.read rest.entry) }
 {
     let mut rest = rest;
@@ -112,7 +116,10 @@ fn read_further_entries<'t>(alloc: Global, rest: Rest<'t>) -> Result<(Vec<PhiEnt
 
 /// Reads a phi behind its name: its type and its entries.
 #[tactic(auto, unfolding(crate::specs::Phis::phi_forms))]
-pub fn read_phi<'t>(alloc: Global, rest: Rest<'t>) -> Result<((TyText, PhiEntries), Rest<'t>), End>
+pub fn read_phi<'t>(
+    alloc: Global,
+    rest: Cursor<'t>,
+) -> Result<((TyText, PhiEntries), Cursor<'t>), End>
     ensures { Gives (λ x. x) result (phis.read rest.entry) }
 {
     let rest = word(rest, Class::Phi)?;

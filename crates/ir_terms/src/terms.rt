@@ -5,17 +5,18 @@ ghost use Rattle.ir_rules.specs.Reading.{Gives};
 ghost use Rattle.ir_rules.specs.Rules.{each, ◌▷◌, ◌◁◌};
 ghost use Rattle.ir_words.specs.declared.class.Class.TheVariants.{CloseSquare, Comma, OpenSquare};
 
-use crate::ending::Ending;
+use crate::term_body::TermBody;
 use ir_attributes::skip_attachments;
+use ir_ident::NameUse;
 use ir_rules::{End, word};
-use ir_syntax::{Case, Cases, NameUse, Term, TypedOperand};
+use ir_syntax::{Case, Cases, Term, TypedOperand};
 use ir_types::{begins_type, read_literal, read_local_use, read_type};
 use ir_values::read_typed_operand;
-use ir_words::{Class, Rest};
+use ir_words::{Class, Cursor};
 use std::alloc::Global;
 
 /// Reads `label` and the name of a block.
-fn read_target<'t>(alloc: Global, rest: Rest<'t>) -> Result<(NameUse, Rest<'t>), End>
+fn read_target<'t>(alloc: Global, rest: Cursor<'t>) -> Result<(NameUse, Cursor<'t>), End>
     ensures { Gives (λ x. x) result (targets.read rest.entry) }
 {
     let rest = word(rest, Class::LabelWord)?;
@@ -23,7 +24,7 @@ fn read_target<'t>(alloc: Global, rest: Rest<'t>) -> Result<(NameUse, Rest<'t>),
 }
 
 /// Reads `label` and the name of a block behind a comma.
-fn read_next_target<'t>(alloc: Global, rest: Rest<'t>) -> Result<(NameUse, Rest<'t>), End>
+fn read_next_target<'t>(alloc: Global, rest: Cursor<'t>) -> Result<(NameUse, Cursor<'t>), End>
     ensures { Gives (λ x. x) result ((Comma ▷ targets).read rest.entry) }
 {
     let rest = word(rest, Class::Comma)?;
@@ -32,40 +33,40 @@ fn read_next_target<'t>(alloc: Global, rest: Rest<'t>) -> Result<(NameUse, Rest<
 
 /// Reads `ret` (LangRef, "'ret' Instruction").
 #[tactic(auto, unfolding(crate::specs::Terms::return_forms))]
-fn read_return<'t>(alloc: Global, rest: Rest<'t>) -> Result<(Ending, Rest<'t>), End>
+fn read_return<'t>(alloc: Global, rest: Cursor<'t>) -> Result<(TermBody, Cursor<'t>), End>
     ensures { Gives (λ x. x) result (returns.read rest.entry) }
 {
     let rest = word(rest, Class::Ret)?;
     match rest.first() {
-        Class::Void => Ok((Ending::ReturnVoid, rest.skip())),
+        Class::Void => Ok((TermBody::ReturnVoid, rest.skip())),
         _ => {
             let (value, rest) = read_typed_operand(alloc, rest)?;
-            Ok((Ending::Return(value), rest))
+            Ok((TermBody::Return(value), rest))
         }
     }
 }
 
 /// Reads what a conditional branch says behind `br`.
 #[tactic(auto, unfolding(crate::specs::Terms::conditional_forms))]
-fn read_conditional<'t>(alloc: Global, rest: Rest<'t>) -> Result<(Ending, Rest<'t>), End>
+fn read_conditional<'t>(alloc: Global, rest: Cursor<'t>) -> Result<(TermBody, Cursor<'t>), End>
     ensures { Gives (λ x. x) result (conditionals.read rest.entry) }
 {
     let (condition, rest) = read_typed_operand(alloc, rest)?;
     let (then_target, rest) = read_next_target(alloc, rest)?;
     let (else_target, rest) = read_next_target(alloc, rest)?;
-    Ok((Ending::Branch(condition, then_target, else_target), rest))
+    Ok((TermBody::Branch(condition, then_target, else_target), rest))
 }
 
 /// Reads `br` (LangRef, "'br' Instruction").
 #[tactic(auto, unfolding(crate::specs::Terms::branch_forms))]
-fn read_branch<'t>(alloc: Global, rest: Rest<'t>) -> Result<(Ending, Rest<'t>), End>
+fn read_branch<'t>(alloc: Global, rest: Cursor<'t>) -> Result<(TermBody, Cursor<'t>), End>
     ensures { Gives (λ x. x) result (branches.read rest.entry) }
 {
     let rest = word(rest, Class::Br)?;
     match rest.first() {
         Class::LabelWord => {
             let (target, rest) = read_target(alloc, rest)?;
-            Ok((Ending::Jump(target), rest))
+            Ok((TermBody::Jump(target), rest))
         }
         _ => read_conditional(alloc, rest),
     }
@@ -73,7 +74,7 @@ fn read_branch<'t>(alloc: Global, rest: Rest<'t>) -> Result<(Ending, Rest<'t>), 
 
 /// Reads a case of a switch.
 #[tactic(auto, unfolding(crate::specs::Terms::case_forms))]
-fn read_case<'t>(alloc: Global, rest: Rest<'t>) -> Result<(Case, Rest<'t>), End>
+fn read_case<'t>(alloc: Global, rest: Cursor<'t>) -> Result<(Case, Cursor<'t>), End>
     ensures { Gives (λ x. x) result (cases.read rest.entry) }
 {
     let (ty, rest) = read_type(alloc, rest, 64)?;
@@ -83,7 +84,7 @@ fn read_case<'t>(alloc: Global, rest: Rest<'t>) -> Result<(Case, Rest<'t>), End>
 }
 
 /// Reads the cases of a switch.
-fn read_cases<'t>(alloc: Global, rest: Rest<'t>) -> Result<(Cases, Rest<'t>), End>
+fn read_cases<'t>(alloc: Global, rest: Cursor<'t>) -> Result<(Cases, Cursor<'t>), End>
     ensures { Gives (λ x. x) result ((each cases).read rest.entry) }
 {
     let mut rest = rest;
@@ -97,7 +98,7 @@ fn read_cases<'t>(alloc: Global, rest: Rest<'t>) -> Result<(Cases, Rest<'t>), En
 }
 
 /// Reads the cases of a switch between square brackets.
-fn read_case_list<'t>(alloc: Global, rest: Rest<'t>) -> Result<(Cases, Rest<'t>), End>
+fn read_case_list<'t>(alloc: Global, rest: Cursor<'t>) -> Result<(Cases, Cursor<'t>), End>
     ensures { Gives (λ x. x) result ((OpenSquare ▷ each cases ◁ CloseSquare).read rest.entry) }
 {
     let rest = word(rest, Class::OpenSquare)?;
@@ -108,18 +109,18 @@ fn read_case_list<'t>(alloc: Global, rest: Rest<'t>) -> Result<(Cases, Rest<'t>)
 
 /// Reads `switch` (LangRef, "'switch' Instruction").
 #[tactic(auto, unfolding(crate::specs::Terms::switch_forms))]
-fn read_switch<'t>(alloc: Global, rest: Rest<'t>) -> Result<(Ending, Rest<'t>), End>
+fn read_switch<'t>(alloc: Global, rest: Cursor<'t>) -> Result<(TermBody, Cursor<'t>), End>
     ensures { Gives (λ x. x) result (switches.read rest.entry) }
 {
     let rest = word(rest, Class::Switch)?;
     let (value, rest) = read_typed_operand(alloc, rest)?;
     let (default, rest) = read_next_target(alloc, rest)?;
     let (cases, rest) = read_case_list(alloc, rest)?;
-    Ok((Ending::Switch(value, default, cases), rest))
+    Ok((TermBody::Switch(value, default, cases), rest))
 }
 
 /// Reads a terminator without the metadata behind it.
-fn read_ending<'t>(alloc: Global, rest: Rest<'t>) -> Result<(Ending, Rest<'t>), End>
+fn read_ending<'t>(alloc: Global, rest: Cursor<'t>) -> Result<(TermBody, Cursor<'t>), End>
     ensures { Gives (λ x. x) result (endings.read rest.entry) }
 {
     match rest.first() {
@@ -128,23 +129,23 @@ fn read_ending<'t>(alloc: Global, rest: Rest<'t>) -> Result<(Ending, Rest<'t>), 
         Class::Switch => read_switch(alloc, rest),
         _ => {
             let rest = word(rest, Class::Unreachable)?;
-            Ok((Ending::Unreachable, rest))
+            Ok((TermBody::Unreachable, rest))
         }
     }
 }
 
 /// The terminator that begins on a line.
-fn term_of(line: u32, ending: Ending) -> Term
+fn term_of(line: u32, ending: TermBody) -> Term
     ensures { result ≡ term_of (line, ending) }
 {
     match ending {
-        Ending::ReturnVoid => Term::ReturnVoid { line },
-        Ending::Return(operand) => {
+        TermBody::ReturnVoid => Term::ReturnVoid { line },
+        TermBody::Return(operand) => {
             let TypedOperand { ty, value } = operand;
             Term::Ret { line, ty, value }
         }
-        Ending::Jump(target) => Term::Br { line, target },
-        Ending::Branch(operand, then_target, else_target) => {
+        TermBody::Jump(target) => Term::Br { line, target },
+        TermBody::Branch(operand, then_target, else_target) => {
             let TypedOperand {
                 ty,
                 value: condition,
@@ -157,7 +158,7 @@ fn term_of(line: u32, ending: Ending) -> Term
                 else_target,
             }
         }
-        Ending::Switch(operand, default, cases) => {
+        TermBody::Switch(operand, default, cases) => {
             let TypedOperand { ty, value } = operand;
             Term::Switch {
                 line,
@@ -167,13 +168,13 @@ fn term_of(line: u32, ending: Ending) -> Term
                 cases,
             }
         }
-        Ending::Unreachable => Term::Unreachable { line },
+        TermBody::Unreachable => Term::Unreachable { line },
     }
 }
 
 /// Reads a terminator and the metadata behind it.
 #[tactic(auto, unfolding(crate::specs::Terms::term_forms))]
-pub fn read_term<'t>(alloc: Global, rest: Rest<'t>) -> Result<(Term, Rest<'t>), End>
+pub fn read_term<'t>(alloc: Global, rest: Cursor<'t>) -> Result<(Term, Cursor<'t>), End>
     ensures { Gives (λ x. x) result ((terms).read rest.entry) }
 {
     let line = rest.line();

@@ -1,15 +1,15 @@
 -- A token that is an integer type has a width of at most 64.
-use Rattle.std.proofs.Common.{◌≡◌, codes, slice_index, ℕ, ◌≤◌, Bool, true, false, not, ◌&&◌, ◌==◌, nat_le, List, [], ◌∷◌, ap, arith, drop, if◌then◌else◌, refl, sym, ◌∙◌}
+use Rattle.std.proofs.Common.{◌≡◌, codes, slice_index, ℕ, ◌≤◌, Bool, true, false, not, ◌&&◌, ◌==◌, List, [], ◌∷◌, ap, arith, drop, if◌then◌else◌, refl, sym, ◌∙◌}
 use Rattle.std.proofs.lemmas.Bool.Decides.{nat_tests}
 use Rattle.std.specs.List.{list_all}
 use Rattle.std.specs.Str.{bytes_eq}
 use Rattle.ir_lex.specs.Literals.{decimal_after}
 use Rattle.ir_lex.specs.declared.kind.Kind.{Kind}
 use Rattle.ir_lex.specs.declared.kind.Kind.TheVariants as kind
-use Rattle.ir_words.specs.Classes.{class_in, first, head_text, number, same}
+use Rattle.ir_words.specs.Classes.{class_in, first, head_text, same}
 use Rattle.ir_words.specs.Intrinsics.{begins_with, global_class, global_name, intrinsic_class, is_sized, name_class, named, sized}
 use Rattle.ir_words.specs.Lexemes.{Lexeme}
-use Rattle.ir_words.specs.Words.{Entry, is_digits, is_int_type, is_width, looked_up, word_class, words}
+use Rattle.ir_words.specs.Words.{Entry, is_int_type, is_width, looked_up, word_class, words}
 use Rattle.ir_words.specs.declared.class.Class.{Class}
 use Rattle.ir_words.specs.declared.class.Class.TheVariants as class
 

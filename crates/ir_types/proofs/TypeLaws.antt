@@ -1,21 +1,19 @@
 -- The rules of types keep the laws.
-use Rattle.std.proofs.Common.{◌≡◌, ℕ, zero, suc, Bool, true, false, List, [], ◌∷◌, Some, None, codes, refl}
+use Rattle.std.proofs.Common.{◌≡◌, ℕ, zero, suc, true, false, List, [], ◌∷◌, Some, None, refl}
 use Rattle.ir_lex.specs.Lengths.{minus_len}
 use Rattle.ir_lex.specs.Literals.{decimal_after, is_in_range}
 use Rattle.ir_syntax.specs.Types.{TextTree, int, ptr, array, struct, named, trees_from}
-use Rattle.ir_syntax.specs.declared.name.NameUse.{NameUse}
+use Rattle.ir_ident.specs.declared.name.NameUse.{NameUse}
 use Rattle.ir_words.specs.Words.{is_digits, is_int_type, is_width, word_class}
-use Rattle.ir_words.specs.declared.class.Class.{Class}
 use Rattle.ir_words.specs.declared.class.Class.TheVariants as class
-use Rattle.ir_rules.specs.Leaves.{leaf, lined, means}
-use Rattle.ir_rules.specs.Rules.{Rule, ◌▷◌, ◌◁◌, commas, either, made, seq, within}
+use Rattle.ir_rules.specs.Rules.{◌▷◌, ◌◁◌, commas, either, made}
 use Rattle.ir_rules.proofs.Derived.{commas_lawful}
 use Rattle.ir_rules.proofs.Laws.{Lawful, either_lawful, made_lawful, seq_lawful, within_lawful}
 use Rattle.ir_rules.proofs.Leaves.{leaf_lawful, lined_lawful}
 use Rattle.ir_rules.proofs.Examples.{example}
 use Rattle.ir_rules.proofs.Words.{after_law, before_law, means_law}
-use Rattle.ir_types.specs.Names.{literal_of, name_of, sigil_name, use_of}
-use Rattle.ir_types.specs.Types.{array_lengths, arrays, as_length, integer_types, literals, local_names, local_uses, of_types, packed_structs, plain_structs, result_types, simple_forms, simple_types, structs, types, types_in}
+use Rattle.ir_types.specs.Names.{literal_of, name_of, use_of}
+use Rattle.ir_types.specs.Types.{array_lengths, arrays, integer_types, literals, local_names, local_uses, of_types, result_types, simple_forms, simple_types, structs, types, types_in}
 
 pub local_names_law : Lawful local_names
 unfolding name_of

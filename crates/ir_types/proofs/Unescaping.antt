@@ -1,7 +1,7 @@
 -- A name in quotes, read into a list of its bytes.
 use Rattle.std.proofs.Common.{◌≡◌, ℕ, ◌+◌, ◌<◌, ◌≤◌, List, [], ◌∷◌, ◌++◌, ap, append_assoc, arith, drop, length, subst, sym, ◌∙◌}
 use Rattle.std.proofs.lemmas.List.{append-nil, drop-drop, length-drop}
-use Rattle.ir_lex.specs.Escapes.{escape_byte, escape_len, unescaped, unescaped_after}
+use Rattle.ir_lex.specs.Escapes.{escape_byte, escape_len, unescaped_after}
 use Rattle.ir_lex.proofs.Scans.{unescaped_step}
 use Rattle.ir_words.proofs.Unescaping.{left_of, none_left}
 

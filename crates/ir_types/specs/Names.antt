@@ -6,9 +6,9 @@ use Rattle.ir_lex.specs.Escapes.{unescaped}
 use Rattle.ir_lex.specs.Lengths.{minus_len}
 use Rattle.ir_lex.specs.Literals.{decimal_after, is_in_range}
 use Rattle.ir_syntax.specs.declared.literal.Literal.{Literal}
-use Rattle.ir_syntax.specs.declared.name.Name.{Name}
-use Rattle.ir_syntax.specs.declared.name.Name.TheVariants.{Named, Unnamed}
-use Rattle.ir_syntax.specs.declared.name.NameUse.{NameUse}
+use Rattle.ir_ident.specs.declared.name.Name.{Name}
+use Rattle.ir_ident.specs.declared.name.Name.TheVariants.{Named, Unnamed}
+use Rattle.ir_ident.specs.declared.name.NameUse.{NameUse}
 
 -- what stands between quotes
 abbrev pub between_quotes : List ℕ → List ℕ

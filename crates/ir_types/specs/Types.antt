@@ -1,11 +1,11 @@
 -- Types as the text writes them (LangRef, "Type System"), with at most so many brackets inside each
 -- other.
-use Rattle.std.specs.Prelude.{ℕ, zero, suc, ◌==◌, ◌&&◌, ◌||◌, not, nat_lt, Option, Some, None, List, [], ◌∷◌, drop, if◌then◌else◌, Bool, true, false}
+use Rattle.std.specs.Prelude.{ℕ, zero, suc, ◌==◌, ◌&&◌, ◌||◌, not, nat_lt, Option, Some, None, List, [], ◌∷◌, drop, if◌then◌else◌, true, false}
 use Rattle.ir_lex.specs.Literals.{decimal_after}
 use Rattle.ir_syntax.specs.Types.{TextTree, int, ptr, array, struct, named, trees_from}
 use Rattle.ir_syntax.specs.declared.literal.Literal.{Literal}
-use Rattle.ir_syntax.specs.declared.name.Name.{Name}
-use Rattle.ir_syntax.specs.declared.name.NameUse.{NameUse}
+use Rattle.ir_ident.specs.declared.name.Name.{Name}
+use Rattle.ir_ident.specs.declared.name.NameUse.{NameUse}
 use Rattle.ir_words.specs.declared.class.Class.{Class}
 use Rattle.ir_words.specs.declared.class.Class.TheVariants.{Local, Int, IntType, Ptr, Times, OpenSquare, CloseSquare, OpenCurly, CloseCurly, OpenPacked, ClosePacked, Void}
 use Rattle.ir_rules.specs.Leaves.{leaf, lined, means}

@@ -4,7 +4,7 @@ ghost use Rattle.std.specs.List.{list_all};
 ghost use Rattle.ir_lex.specs.Characters.{is_digit};
 ghost use Rattle.ir_lex.specs.Literals.{decimal_after};
 
-use ir_syntax::ItemNumber;
+use ir_ident::ItemNumber;
 use std::alloc::{AllocError, Global};
 
 /// The number of these decimal digits, or 2^128 - 1 where it is larger.

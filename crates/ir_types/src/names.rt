@@ -5,8 +5,8 @@ ghost use Rattle.ir_types.specs.Names.{between_quotes, name_of, sigil_name};
 
 use crate::digits::item_number;
 use crate::quoted::unescaped;
-use ir_syntax::{Identifier, Name, NameUse};
-use ir_words::{Rest, are_digits, byte_at, front_of, rest_of};
+use ir_ident::{Identifier, Name, NameUse};
+use ir_words::{Cursor, are_digits, byte_at, front_of, rest_of};
 use std::alloc::{AllocError, Global};
 
 /// What stands between quotes.
@@ -35,7 +35,10 @@ pub fn name_of(alloc: Global, text: &[u8]) -> Result<Name, AllocError>
 }
 
 /// Reads the name that the first token writes behind its sigil.
-pub(crate) fn name_here<'t>(alloc: Global, rest: Rest<'t>) -> Result<(Name, Rest<'t>), AllocError>
+pub(crate) fn name_here<'t>(
+    alloc: Global,
+    rest: Cursor<'t>,
+) -> Result<(Name, Cursor<'t>), AllocError>
     ensures { IfOk result (λ x. x ≡ (sigil_name (head_text rest.entry), drop 1 rest.entry)) }
 {
     let name = name_of(alloc, rest_of(rest.text(), 1))?;
@@ -43,7 +46,7 @@ pub(crate) fn name_here<'t>(alloc: Global, rest: Rest<'t>) -> Result<(Name, Rest
 }
 
 /// Reads the name that the first token writes behind its sigil, with its line.
-pub fn use_here<'t>(alloc: Global, rest: Rest<'t>) -> Result<(NameUse, Rest<'t>), AllocError>
+pub fn use_here<'t>(alloc: Global, rest: Cursor<'t>) -> Result<(NameUse, Cursor<'t>), AllocError>
     ensures { IfOk result (λ x. x ≡ (record { line = head_line rest.entry; name = sigil_name (head_text rest.entry) }, drop 1 rest.entry)) }
 {
     let line = rest.line();

@@ -1,16 +1,17 @@
 //! Types, and the names and the literals of which they are made (LangRef, "Type System").
 ghost use Rattle.std.specs.Prelude.{◌≡◌, false, true};
 ghost use Rattle.ir_types.specs.Types.{array_lengths, arrays, as_length, integer_types, literals, local_names, local_uses, packed_structs, plain_structs, result_types, simple_types, structs, types};
-ghost use Rattle.ir_rules.specs.Reading.{Gives};
+ghost use Rattle.ir_rules.specs.Reading.{Gives, GivesExactly};
 ghost use Rattle.ir_rules.specs.Rules.{commas, either, has};
 ghost use Rattle.ir_types.specs.Types.{type_starts};
 
 use crate::digits::small_number;
 use crate::literals::literal_of;
 use crate::names::{name_here, use_here};
+use ir_ident::{Name, NameUse};
 use ir_rules::{End, bad, word};
-use ir_syntax::{Literal, Name, NameUse, TyText, TypeTexts};
-use ir_words::{Class, Rest, rest_of};
+use ir_syntax::{Literal, TyText, TypeTexts};
+use ir_words::{Class, Cursor, rest_of};
 use std::alloc::Global;
 
 /// Reads a name after `%`.
@@ -18,7 +19,7 @@ use std::alloc::Global;
 /// # Errors
 ///
 /// `Bad` at this token if it is none.
-pub fn read_local_name<'t>(alloc: Global, rest: Rest<'t>) -> Result<(Name, Rest<'t>), End>
+pub fn read_local_name<'t>(alloc: Global, rest: Cursor<'t>) -> Result<(Name, Cursor<'t>), End>
     ensures { Gives (λ x. x) result (local_names.read rest.entry) }
 {
     match rest.first() {
@@ -32,7 +33,7 @@ pub fn read_local_name<'t>(alloc: Global, rest: Rest<'t>) -> Result<(Name, Rest<
 /// # Errors
 ///
 /// `Bad` at this token if it is none.
-pub fn read_local_use<'t>(alloc: Global, rest: Rest<'t>) -> Result<(NameUse, Rest<'t>), End>
+pub fn read_local_use<'t>(alloc: Global, rest: Cursor<'t>) -> Result<(NameUse, Cursor<'t>), End>
     ensures { Gives (λ x. x) result (local_uses.read rest.entry) }
 {
     match rest.first() {
@@ -46,8 +47,8 @@ pub fn read_local_use<'t>(alloc: Global, rest: Rest<'t>) -> Result<(NameUse, Res
 /// # Errors
 ///
 /// `Bad` at this token if it is none.
-pub fn read_literal<'t>(rest: Rest<'t>) -> Result<(Literal, Rest<'t>), End>
-    ensures { Gives (λ x. x) result (literals.read rest.entry) }
+pub fn read_literal<'t>(rest: Cursor<'t>) -> Result<(Literal, Cursor<'t>), End>
+    ensures { GivesExactly (λ x. x) result (literals.read rest.entry) }
 {
     match rest.first() {
         Class::Int => match literal_of(rest.text()) {
@@ -71,8 +72,8 @@ fn as_length(literal: Option<Literal>) -> Option<u32>
 }
 
 /// Reads the length of an array, from 0 to 4294967295.
-fn read_array_length<'t>(rest: Rest<'t>) -> Result<(u32, Rest<'t>), End>
-    ensures { Gives (λ x. x) result (array_lengths.read rest.entry) }
+fn read_array_length<'t>(rest: Cursor<'t>) -> Result<(u32, Cursor<'t>), End>
+    ensures { GivesExactly (λ x. x) result (array_lengths.read rest.entry) }
 {
     match rest.first() {
         Class::Int => match as_length(literal_of(rest.text())) {
@@ -85,8 +86,8 @@ fn read_array_length<'t>(rest: Rest<'t>) -> Result<(u32, Rest<'t>), End>
 
 /// Reads `i` and a width from 1 to 64.
 #[tactic(auto, using(crate::proofs::IntegerWidths::fits))]
-fn read_integer_type<'t>(rest: Rest<'t>) -> Result<(TyText, Rest<'t>), End>
-    ensures { Gives (λ x. x) result (integer_types.read rest.entry) }
+fn read_integer_type<'t>(rest: Cursor<'t>) -> Result<(TyText, Cursor<'t>), End>
+    ensures { GivesExactly (λ x. x) result (integer_types.read rest.entry) }
 {
     match rest.first() {
         Class::IntType => {
@@ -99,7 +100,7 @@ fn read_integer_type<'t>(rest: Rest<'t>) -> Result<(TyText, Rest<'t>), End>
 
 /// Reads a type without brackets.
 #[tactic(auto, unfolding(crate::specs::Types::simple_forms))]
-fn read_simple_type<'t>(alloc: Global, rest: Rest<'t>) -> Result<(TyText, Rest<'t>), End>
+fn read_simple_type<'t>(alloc: Global, rest: Cursor<'t>) -> Result<(TyText, Cursor<'t>), End>
     ensures { Gives (λ x. x) result (simple_types.read rest.entry) }
 {
     match rest.first() {
@@ -129,7 +130,7 @@ pub fn begins_type(class: Class) -> bool
 
 /// Reads `[`, a length, `x`, a type of at most so many brackets, and `]`.
 #[cycle(types)]
-fn read_array<'t>(alloc: Global, rest: Rest<'t>, depth: u8) -> Result<(TyText, Rest<'t>), End>
+fn read_array<'t>(alloc: Global, rest: Cursor<'t>, depth: u8) -> Result<(TyText, Cursor<'t>), End>
     ensures { Gives (λ x. x) result ((arrays (types depth)).read rest.entry) }
 {
     let rest = word(rest, Class::OpenSquare)?;
@@ -142,7 +143,11 @@ fn read_array<'t>(alloc: Global, rest: Rest<'t>, depth: u8) -> Result<(TyText, R
 
 /// Reads types of at most so many brackets, parted by commas, or none.
 #[cycle(types)]
-fn read_types<'t>(alloc: Global, rest: Rest<'t>, depth: u8) -> Result<(TypeTexts, Rest<'t>), End>
+fn read_types<'t>(
+    alloc: Global,
+    rest: Cursor<'t>,
+    depth: u8,
+) -> Result<(TypeTexts, Cursor<'t>), End>
     ensures { Gives (λ x. x) result ((commas (types depth)).read rest.entry) }
 {
     let mut list = Vec::new(alloc);
@@ -164,9 +169,9 @@ fn read_types<'t>(alloc: Global, rest: Rest<'t>, depth: u8) -> Result<(TypeTexts
 #[cycle(types)]
 fn read_plain_struct<'t>(
     alloc: Global,
-    rest: Rest<'t>,
+    rest: Cursor<'t>,
     depth: u8,
-) -> Result<(TyText, Rest<'t>), End>
+) -> Result<(TyText, Cursor<'t>), End>
     ensures { Gives (λ x. x) result ((plain_structs (types depth)).read rest.entry) }
 {
     let rest = word(rest, Class::OpenCurly)?;
@@ -179,9 +184,9 @@ fn read_plain_struct<'t>(
 #[cycle(types)]
 fn read_packed_struct<'t>(
     alloc: Global,
-    rest: Rest<'t>,
+    rest: Cursor<'t>,
     depth: u8,
-) -> Result<(TyText, Rest<'t>), End>
+) -> Result<(TyText, Cursor<'t>), End>
     ensures { Gives (λ x. x) result ((packed_structs (types depth)).read rest.entry) }
 {
     let rest = word(rest, Class::OpenPacked)?;
@@ -192,7 +197,11 @@ fn read_packed_struct<'t>(
 
 /// Reads a type, of at most so many brackets within its own.
 #[cycle(types)]
-fn read_bracketed<'t>(alloc: Global, rest: Rest<'t>, depth: u8) -> Result<(TyText, Rest<'t>), End>
+fn read_bracketed<'t>(
+    alloc: Global,
+    rest: Cursor<'t>,
+    depth: u8,
+) -> Result<(TyText, Cursor<'t>), End>
     ensures { Gives (λ x. x) result ((either (arrays (types depth)) (either (structs (types depth)) simple_types)).read rest.entry) }
 {
     match rest.first() {
@@ -210,7 +219,11 @@ fn read_bracketed<'t>(alloc: Global, rest: Rest<'t>, depth: u8) -> Result<(TyTex
 /// `Bad` at the first token with which no type begins.
 #[cycle(types)]
 #[tactic(auto, unfolding(crate::specs::Types::types_in))]
-pub fn read_type<'t>(alloc: Global, rest: Rest<'t>, depth: u8) -> Result<(TyText, Rest<'t>), End>
+pub fn read_type<'t>(
+    alloc: Global,
+    rest: Cursor<'t>,
+    depth: u8,
+) -> Result<(TyText, Cursor<'t>), End>
     ensures { Gives (λ x. x) result ((types depth).read rest.entry) }
 {
     if depth == 0 {
@@ -224,7 +237,11 @@ pub fn read_type<'t>(alloc: Global, rest: Rest<'t>, depth: u8) -> Result<(TyText
 /// # Errors
 ///
 /// `Bad` at the first token that can't stand there, `NoMemory` if memory runs out.
-pub fn read_struct<'t>(alloc: Global, rest: Rest<'t>, depth: u8) -> Result<(TyText, Rest<'t>), End>
+pub fn read_struct<'t>(
+    alloc: Global,
+    rest: Cursor<'t>,
+    depth: u8,
+) -> Result<(TyText, Cursor<'t>), End>
     ensures { Gives (λ x. x) result ((structs (types depth)).read rest.entry) }
 {
     match rest.first() {
@@ -240,8 +257,8 @@ pub fn read_struct<'t>(alloc: Global, rest: Rest<'t>, depth: u8) -> Result<(TyTe
 /// `Bad` at the first token with which neither begins.
 pub fn read_result_type<'t>(
     alloc: Global,
-    rest: Rest<'t>,
-) -> Result<(Option<TyText>, Rest<'t>), End>
+    rest: Cursor<'t>,
+) -> Result<(Option<TyText>, Cursor<'t>), End>
     ensures { Gives (λ x. x) result (result_types.read rest.entry) }
 {
     match rest.first() {

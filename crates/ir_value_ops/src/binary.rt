@@ -2,7 +2,7 @@
 ghost use Rattle.std.specs.Prelude.{◌≡◌};
 ghost use Rattle.ir_value_ops.specs.ValueOps.{bitwise, bitwise_ops, exact, exact_ops, wrapping, wrapping_ops};
 ghost use Rattle.ir_rules.specs.Leaves.{flag};
-ghost use Rattle.ir_rules.specs.Reading.{Gives};
+ghost use Rattle.ir_rules.specs.Reading.{Gives, GivesExactly};
 ghost use Rattle.ir_rules.specs.Rules.{has};
 ghost use Rattle.ir_words.specs.declared.class.Class.TheVariants.{Exact};
 
@@ -11,7 +11,7 @@ use crate::wraps::read_wraps;
 use cg_num::BinOp;
 use ir_rules::{End, bad};
 use ir_syntax::Op;
-use ir_words::{Class, Rest};
+use ir_words::{Class, Cursor};
 use std::alloc::Global;
 
 /// Whether a token of this class begins an operation that may say how it wraps.
@@ -39,8 +39,8 @@ pub(crate) fn begins_bitwise(class: Class) -> bool
 }
 
 /// Reads which of the operations it is that may say how they wrap.
-fn read_wrapping_op<'t>(rest: Rest<'t>) -> Result<(BinOp, Rest<'t>), End>
-    ensures { Gives (λ x. x) result (wrapping_ops.read rest.entry) }
+fn read_wrapping_op<'t>(rest: Cursor<'t>) -> Result<(BinOp, Cursor<'t>), End>
+    ensures { GivesExactly (λ x. x) result (wrapping_ops.read rest.entry) }
 {
     let op = match rest.first() {
         Class::Add => BinOp::Add,
@@ -53,8 +53,8 @@ fn read_wrapping_op<'t>(rest: Rest<'t>) -> Result<(BinOp, Rest<'t>), End>
 }
 
 /// Reads which of the operations it is that may say that they are exact.
-fn read_exact_op<'t>(rest: Rest<'t>) -> Result<(BinOp, Rest<'t>), End>
-    ensures { Gives (λ x. x) result (exact_ops.read rest.entry) }
+fn read_exact_op<'t>(rest: Cursor<'t>) -> Result<(BinOp, Cursor<'t>), End>
+    ensures { GivesExactly (λ x. x) result (exact_ops.read rest.entry) }
 {
     let op = match rest.first() {
         Class::Udiv => BinOp::Udiv,
@@ -67,8 +67,8 @@ fn read_exact_op<'t>(rest: Rest<'t>) -> Result<(BinOp, Rest<'t>), End>
 }
 
 /// Reads which of the operations it is that say nothing more.
-fn read_bitwise_op<'t>(rest: Rest<'t>) -> Result<(BinOp, Rest<'t>), End>
-    ensures { Gives (λ x. x) result (bitwise_ops.read rest.entry) }
+fn read_bitwise_op<'t>(rest: Cursor<'t>) -> Result<(BinOp, Cursor<'t>), End>
+    ensures { GivesExactly (λ x. x) result (bitwise_ops.read rest.entry) }
 {
     let op = match rest.first() {
         Class::Urem => BinOp::Urem,
@@ -82,8 +82,8 @@ fn read_bitwise_op<'t>(rest: Rest<'t>) -> Result<(BinOp, Rest<'t>), End>
 }
 
 /// Reads whether `exact` stands here.
-fn read_exactness<'t>(rest: Rest<'t>) -> Result<(bool, Rest<'t>), End>
-    ensures { Gives (λ x. x) result ((flag Exact).read rest.entry) }
+fn read_exactness<'t>(rest: Cursor<'t>) -> Result<(bool, Cursor<'t>), End>
+    ensures { GivesExactly (λ x. x) result ((flag Exact).read rest.entry) }
 {
     match rest.first() {
         Class::Exact => Ok((true, rest.skip())),
@@ -93,7 +93,7 @@ fn read_exactness<'t>(rest: Rest<'t>) -> Result<(bool, Rest<'t>), End>
 
 /// Reads an operation that may say how it wraps.
 #[tactic(auto, unfolding(crate::specs::ValueOps::wrapping_forms))]
-pub(crate) fn read_wrapping<'t>(alloc: Global, rest: Rest<'t>) -> Result<(Op, Rest<'t>), End>
+pub(crate) fn read_wrapping<'t>(alloc: Global, rest: Cursor<'t>) -> Result<(Op, Cursor<'t>), End>
     ensures { Gives (λ x. x) result (wrapping.read rest.entry) }
 {
     let (op, rest) = read_wrapping_op(rest)?;
@@ -112,7 +112,7 @@ pub(crate) fn read_wrapping<'t>(alloc: Global, rest: Rest<'t>) -> Result<(Op, Re
 
 /// Reads an operation that may say that it is exact.
 #[tactic(auto, unfolding(crate::specs::ValueOps::exact_forms))]
-pub(crate) fn read_exact<'t>(alloc: Global, rest: Rest<'t>) -> Result<(Op, Rest<'t>), End>
+pub(crate) fn read_exact<'t>(alloc: Global, rest: Cursor<'t>) -> Result<(Op, Cursor<'t>), End>
     ensures { Gives (λ x. x) result (exact.read rest.entry) }
 {
     let (op, rest) = read_exact_op(rest)?;
@@ -132,7 +132,7 @@ pub(crate) fn read_exact<'t>(alloc: Global, rest: Rest<'t>) -> Result<(Op, Rest<
 
 /// Reads a remainder or an operation bit by bit.
 #[tactic(auto, unfolding(crate::specs::ValueOps::bitwise_forms))]
-pub(crate) fn read_bitwise<'t>(alloc: Global, rest: Rest<'t>) -> Result<(Op, Rest<'t>), End>
+pub(crate) fn read_bitwise<'t>(alloc: Global, rest: Cursor<'t>) -> Result<(Op, Cursor<'t>), End>
     ensures { Gives (λ x. x) result (bitwise.read rest.entry) }
 {
     let (op, rest) = read_bitwise_op(rest)?;

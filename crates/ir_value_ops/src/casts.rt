@@ -1,7 +1,7 @@
 //! Conversions (LangRef, "Conversion Operations").
 ghost use Rattle.std.specs.Prelude.{◌≡◌};
 ghost use Rattle.ir_value_ops.specs.ValueOps.{cast_ops, casts};
-ghost use Rattle.ir_rules.specs.Reading.{Gives};
+ghost use Rattle.ir_rules.specs.Reading.{Gives, GivesExactly};
 ghost use Rattle.ir_rules.specs.Rules.{has, ◌▷◌};
 ghost use Rattle.ir_types.specs.Types.{types};
 ghost use Rattle.ir_words.specs.declared.class.Class.TheVariants.{To};
@@ -10,7 +10,7 @@ use ir_rules::{End, bad, word};
 use ir_syntax::{CastOp, Op, TyText};
 use ir_types::read_type;
 use ir_values::read_typed_operand;
-use ir_words::{Class, Rest};
+use ir_words::{Class, Cursor};
 use std::alloc::Global;
 
 /// Whether a token of this class begins a conversion.
@@ -30,8 +30,8 @@ pub(crate) fn begins_cast(class: Class) -> bool
 
 /// Reads which conversion it is.
 #[tactic(auto, unfolding(crate::specs::ValueOps::cast_op_forms))]
-fn read_cast_op<'t>(rest: Rest<'t>) -> Result<(CastOp, Rest<'t>), End>
-    ensures { Gives (λ x. x) result (cast_ops.read rest.entry) }
+fn read_cast_op<'t>(rest: Cursor<'t>) -> Result<(CastOp, Cursor<'t>), End>
+    ensures { GivesExactly (λ x. x) result (cast_ops.read rest.entry) }
 {
     let op = match rest.first() {
         Class::Trunc => CastOp::Trunc,
@@ -46,7 +46,7 @@ fn read_cast_op<'t>(rest: Rest<'t>) -> Result<(CastOp, Rest<'t>), End>
 }
 
 /// Reads `to` and a type.
-fn read_new_type<'t>(alloc: Global, rest: Rest<'t>) -> Result<(TyText, Rest<'t>), End>
+fn read_new_type<'t>(alloc: Global, rest: Cursor<'t>) -> Result<(TyText, Cursor<'t>), End>
     ensures { Gives (λ x. x) result ((To ▷ types 64).read rest.entry) }
 {
     let rest = word(rest, Class::To)?;
@@ -55,7 +55,7 @@ fn read_new_type<'t>(alloc: Global, rest: Rest<'t>) -> Result<(TyText, Rest<'t>)
 
 /// Reads a conversion.
 #[tactic(auto, unfolding(crate::specs::ValueOps::cast_forms))]
-pub(crate) fn read_cast<'t>(alloc: Global, rest: Rest<'t>) -> Result<(Op, Rest<'t>), End>
+pub(crate) fn read_cast<'t>(alloc: Global, rest: Cursor<'t>) -> Result<(Op, Cursor<'t>), End>
     ensures { Gives (λ x. x) result (casts.read rest.entry) }
 {
     let (op, rest) = read_cast_op(rest)?;

@@ -9,11 +9,11 @@ use ir_rules::{End, word};
 use ir_syntax::{Operand, TyText, TypedOperand};
 use ir_types::read_type;
 use ir_values::{read_operand, read_typed_operand};
-use ir_words::{Class, Rest};
+use ir_words::{Class, Cursor};
 use std::alloc::Global;
 
 /// Reads an operand behind a comma.
-fn read_second<'t>(alloc: Global, rest: Rest<'t>) -> Result<(Operand, Rest<'t>), End>
+fn read_second<'t>(alloc: Global, rest: Cursor<'t>) -> Result<(Operand, Cursor<'t>), End>
     ensures { Gives (λ x. x) result ((Comma ▷ operands).read rest.entry) }
 {
     let rest = word(rest, Class::Comma)?;
@@ -21,7 +21,10 @@ fn read_second<'t>(alloc: Global, rest: Rest<'t>) -> Result<(Operand, Rest<'t>),
 }
 
 /// Reads an operand with its type behind a comma.
-pub fn read_next_operand<'t>(alloc: Global, rest: Rest<'t>) -> Result<(TypedOperand, Rest<'t>), End>
+pub fn read_next_operand<'t>(
+    alloc: Global,
+    rest: Cursor<'t>,
+) -> Result<(TypedOperand, Cursor<'t>), End>
     ensures { Gives (λ x. x) result ((Comma ▷ typed_operands).read rest.entry) }
 {
     let rest = word(rest, Class::Comma)?;
@@ -32,8 +35,8 @@ pub fn read_next_operand<'t>(alloc: Global, rest: Rest<'t>) -> Result<(TypedOper
 #[tactic(auto, unfolding(crate::specs::ValueOps::pair_forms))]
 pub(crate) fn read_pair<'t>(
     alloc: Global,
-    rest: Rest<'t>,
-) -> Result<((TyText, (Operand, Operand)), Rest<'t>), End>
+    rest: Cursor<'t>,
+) -> Result<((TyText, (Operand, Operand)), Cursor<'t>), End>
     ensures { Gives (λ x. x) result (pairs.read rest.entry) }
 {
     let (ty, rest) = read_type(alloc, rest, 64)?;

@@ -1,20 +1,20 @@
 //! Comparisons, choices and frozen values (LangRef, "'icmp' Instruction", "'select' Instruction" and
 //! "'freeze' Instruction").
 ghost use Rattle.ir_value_ops.specs.ValueOps.{freezes, icmps, predicates, selects, signed_orders, unsigned_orders};
-ghost use Rattle.ir_rules.specs.Reading.{Gives};
+ghost use Rattle.ir_rules.specs.Reading.{Gives, GivesExactly};
 
 use crate::pair::{read_next_operand, read_pair};
 use cg_num::Pred;
 use ir_rules::{End, bad, word};
 use ir_syntax::Op;
 use ir_values::read_typed_operand;
-use ir_words::{Class, Rest};
+use ir_words::{Class, Cursor};
 use std::alloc::Global;
 
 /// Reads an order of signed numbers.
 #[tactic(auto, unfolding(crate::specs::ValueOps::signed_order_forms))]
-fn read_signed_order<'t>(rest: Rest<'t>) -> Result<(Pred, Rest<'t>), End>
-    ensures { Gives (λ x. x) result (signed_orders.read rest.entry) }
+fn read_signed_order<'t>(rest: Cursor<'t>) -> Result<(Pred, Cursor<'t>), End>
+    ensures { GivesExactly (λ x. x) result (signed_orders.read rest.entry) }
 {
     let pred = match rest.first() {
         Class::Sgt => Pred::Sgt,
@@ -28,8 +28,8 @@ fn read_signed_order<'t>(rest: Rest<'t>) -> Result<(Pred, Rest<'t>), End>
 
 /// Reads an order of unsigned numbers.
 #[tactic(auto, unfolding(crate::specs::ValueOps::unsigned_order_forms))]
-fn read_unsigned_order<'t>(rest: Rest<'t>) -> Result<(Pred, Rest<'t>), End>
-    ensures { Gives (λ x. x) result (unsigned_orders.read rest.entry) }
+fn read_unsigned_order<'t>(rest: Cursor<'t>) -> Result<(Pred, Cursor<'t>), End>
+    ensures { GivesExactly (λ x. x) result (unsigned_orders.read rest.entry) }
 {
     let pred = match rest.first() {
         Class::Ugt => Pred::Ugt,
@@ -43,8 +43,8 @@ fn read_unsigned_order<'t>(rest: Rest<'t>) -> Result<(Pred, Rest<'t>), End>
 
 /// Reads the condition of a comparison.
 #[tactic(auto, unfolding(crate::specs::ValueOps::predicate_forms))]
-fn read_predicate<'t>(rest: Rest<'t>) -> Result<(Pred, Rest<'t>), End>
-    ensures { Gives (λ x. x) result (predicates.read rest.entry) }
+fn read_predicate<'t>(rest: Cursor<'t>) -> Result<(Pred, Cursor<'t>), End>
+    ensures { GivesExactly (λ x. x) result (predicates.read rest.entry) }
 {
     match rest.first() {
         Class::Eq => Ok((Pred::Eq, rest.skip())),
@@ -56,7 +56,7 @@ fn read_predicate<'t>(rest: Rest<'t>) -> Result<(Pred, Rest<'t>), End>
 
 /// Reads a comparison.
 #[tactic(auto, unfolding(crate::specs::ValueOps::icmp_forms))]
-pub(crate) fn read_icmp<'t>(alloc: Global, rest: Rest<'t>) -> Result<(Op, Rest<'t>), End>
+pub(crate) fn read_icmp<'t>(alloc: Global, rest: Cursor<'t>) -> Result<(Op, Cursor<'t>), End>
     ensures { Gives (λ x. x) result (icmps.read rest.entry) }
 {
     let rest = word(rest, Class::Icmp)?;
@@ -75,7 +75,7 @@ pub(crate) fn read_icmp<'t>(alloc: Global, rest: Rest<'t>) -> Result<(Op, Rest<'
 
 /// Reads a choice between two values.
 #[tactic(auto, unfolding(crate::specs::ValueOps::select_forms))]
-pub(crate) fn read_select<'t>(alloc: Global, rest: Rest<'t>) -> Result<(Op, Rest<'t>), End>
+pub(crate) fn read_select<'t>(alloc: Global, rest: Cursor<'t>) -> Result<(Op, Cursor<'t>), End>
     ensures { Gives (λ x. x) result (selects.read rest.entry) }
 {
     let rest = word(rest, Class::Select)?;
@@ -95,7 +95,7 @@ pub(crate) fn read_select<'t>(alloc: Global, rest: Rest<'t>) -> Result<(Op, Rest
 
 /// Reads a frozen value.
 #[tactic(auto, unfolding(crate::specs::ValueOps::freeze_forms))]
-pub(crate) fn read_freeze<'t>(alloc: Global, rest: Rest<'t>) -> Result<(Op, Rest<'t>), End>
+pub(crate) fn read_freeze<'t>(alloc: Global, rest: Cursor<'t>) -> Result<(Op, Cursor<'t>), End>
     ensures { Gives (λ x. x) result (freezes.read rest.entry) }
 {
     let rest = word(rest, Class::Freeze)?;

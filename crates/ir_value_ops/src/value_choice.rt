@@ -11,7 +11,7 @@ use crate::casts::{begins_cast, read_cast};
 use crate::predicate::{read_freeze, read_icmp, read_select};
 use ir_rules::End;
 use ir_syntax::Op;
-use ir_words::{Class, Rest};
+use ir_words::{Class, Cursor};
 use std::alloc::Global;
 
 /// Whether a token of this class begins an operation on values other than arithmetic.
@@ -35,7 +35,7 @@ pub fn begins_value_op(class: Class) -> bool
 }
 
 /// Reads an operation on values other than arithmetic.
-fn read_other_value_op<'t>(alloc: Global, rest: Rest<'t>) -> Result<(Op, Rest<'t>), End>
+fn read_other_value_op<'t>(alloc: Global, rest: Cursor<'t>) -> Result<(Op, Cursor<'t>), End>
     ensures { Gives (λ x. x) result (other_value_ops.read rest.entry) }
 {
     match rest.first() {
@@ -57,7 +57,7 @@ fn read_other_value_op<'t>(alloc: Global, rest: Rest<'t>) -> Result<(Op, Rest<'t
 ///
 /// `Bad` at the first token with which none goes on, `NoMemory` if memory runs out.
 #[tactic(auto, unfolding(crate::specs::ValueOps::value_op_forms))]
-pub fn read_value_op<'t>(alloc: Global, rest: Rest<'t>) -> Result<(Op, Rest<'t>), End>
+pub fn read_value_op<'t>(alloc: Global, rest: Cursor<'t>) -> Result<(Op, Cursor<'t>), End>
     ensures { Gives (λ x. x) result (value_ops.read rest.entry) }
 {
     let class = rest.first();

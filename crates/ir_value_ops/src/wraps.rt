@@ -2,12 +2,12 @@
 ghost use Rattle.std.specs.Prelude.{◌≡◌, ◌||◌, [], ◌∷◌, false, not, true};
 ghost use Rattle.ir_value_ops.specs.ValueOps.{wraps};
 ghost use Rattle.ir_rules.specs.Leaves.{means};
-ghost use Rattle.ir_rules.specs.Reading.{Gives};
+ghost use Rattle.ir_rules.specs.Reading.{GivesExactly};
 ghost use Rattle.ir_rules.specs.Rules.{either, has};
 ghost use Rattle.ir_words.specs.declared.class.Class.TheVariants.{Nsw, Nuw};
 
 use ir_rules::{End, bad};
-use ir_words::{Class, Rest};
+use ir_words::{Class, Cursor};
 
 /// Whether a token of this class says that nothing wraps.
 fn is_wrap(class: Class) -> bool
@@ -17,8 +17,8 @@ fn is_wrap(class: Class) -> bool
 }
 
 /// Reads one word: true for `nuw`, false for `nsw`.
-fn read_wrap<'t>(rest: Rest<'t>) -> Result<(bool, Rest<'t>), End>
-    ensures { Gives (λ x. x) result ((either (means Nuw true) (means Nsw false)).read rest.entry) }
+fn read_wrap<'t>(rest: Cursor<'t>) -> Result<(bool, Cursor<'t>), End>
+    ensures { GivesExactly (λ x. x) result ((either (means Nuw true) (means Nsw false)).read rest.entry) }
 {
     match rest.first() {
         Class::Nuw => Ok((true, rest.skip())),
@@ -36,8 +36,8 @@ fn with_wrap(wraps: (bool, bool), unsigned: bool) -> (bool, bool)
 
 /// Reads whether `nuw` and whether `nsw` stand here, each in any number.
 #[tactic(auto, unfolding(crate::specs::ValueOps::wrap_forms))]
-pub(crate) fn read_wraps<'t>(rest: Rest<'t>) -> Result<((bool, bool), Rest<'t>), End>
-    ensures { Gives (λ x. x) result (wraps.read rest.entry) }
+pub(crate) fn read_wraps<'t>(rest: Cursor<'t>) -> Result<((bool, bool), Cursor<'t>), End>
+    ensures { GivesExactly (λ x. x) result (wraps.read rest.entry) }
 {
     let mut rest = rest;
     let mut wraps = (false, false);

@@ -1,24 +1,19 @@
 -- The rules of values keep the laws.
-use Rattle.std.proofs.Common.{◌≡◌, ℕ, Bool, List, [], ◌∷◌, Some, refl}
-use Rattle.ir_lex.specs.Escapes.{unescaped}
-use Rattle.ir_syntax.specs.Types.{TextTree}
+use Rattle.std.proofs.Common.{◌≡◌, ℕ, [], ◌∷◌, refl}
 use Rattle.ir_syntax.specs.declared.literal.Literal.{Literal}
-use Rattle.ir_syntax.specs.declared.name.NameUse.{NameUse}
+use Rattle.ir_ident.specs.declared.name.NameUse.{NameUse}
 use Rattle.ir_syntax.specs.declared.operand.ConstantGep.{ConstantGep}
 use Rattle.ir_syntax.specs.declared.operand.Operand.TheVariants as operand
-use Rattle.ir_words.specs.Intrinsics.{begins_with, global_class, global_name, intrinsic_class, is_sized, name_class}
-use Rattle.ir_words.specs.declared.class.Class.{Class}
+use Rattle.ir_words.specs.Intrinsics.{begins_with, global_class, global_name, name_class}
 use Rattle.ir_words.specs.declared.class.Class.TheVariants as class
-use Rattle.ir_rules.specs.Leaves.{flag, leaf, lined}
-use Rattle.ir_rules.specs.Rules.{Rule, ◌▷◌, ◌◁◌, each, either, made, seq, within}
+use Rattle.ir_rules.specs.Rules.{◌▷◌, ◌◁◌}
 use Rattle.ir_rules.proofs.Chains.{each_lawful}
 use Rattle.ir_rules.proofs.Laws.{Lawful, either_lawful, made_lawful, seq_lawful, within_lawful}
 use Rattle.ir_rules.proofs.Leaves.{leaf_lawful, lined_lawful}
 use Rattle.ir_rules.proofs.Examples.{example}
 use Rattle.ir_rules.proofs.Words.{after_law, before_law, flag_law, means_law}
 use Rattle.ir_types.specs.Names.{name_of, use_of}
-use Rattle.ir_types.specs.Types.{types}
-use Rattle.ir_values.specs.Values.{constant_forms, constant_geps, constants, gep_forms, gep_of, global_uses, global_uses_in, operand_forms, operands, operands_within, scalar_forms, scalars, typed_forms, typed_literal, typed_literals, typed_operand, typed_operands, word_forms, word_values}
+use Rattle.ir_values.specs.Values.{constant_forms, constant_geps, constants, gep_forms, gep_of, global_uses, operand_forms, operands_within, scalar_forms, scalars, typed_forms, typed_literal, typed_literals, typed_operand, typed_operands, word_forms, word_values}
 use Rattle.ir_types.proofs.TypeLaws.{literals_law, local_uses_law, types_law}
 
 pub global_uses_law : Lawful global_uses

@@ -2,7 +2,7 @@
 use Rattle.std.specs.Prelude.{ℕ, Some, List, [], ◌∷◌, Bool, false}
 use Rattle.ir_syntax.specs.Types.{TextTree}
 use Rattle.ir_syntax.specs.declared.literal.Literal.{Literal}
-use Rattle.ir_syntax.specs.declared.name.NameUse.{NameUse}
+use Rattle.ir_ident.specs.declared.name.NameUse.{NameUse}
 use Rattle.ir_syntax.specs.declared.operand.ConstantGep.{ConstantGep}
 use Rattle.ir_syntax.specs.declared.operand.Operand.{Operand}
 use Rattle.ir_syntax.specs.declared.operand.Operand.TheVariants as operand

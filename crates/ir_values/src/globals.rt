@@ -4,14 +4,14 @@ ghost use Rattle.ir_rules.specs.Reading.{Gives};
 ghost use Rattle.std.specs.Prelude.{[], ◌∷◌};
 ghost use Rattle.ir_words.specs.declared.class.Class.TheVariants as Classes;
 
+use ir_ident::NameUse;
 use ir_rules::{End, bad};
-use ir_syntax::NameUse;
 use ir_types::use_here;
-use ir_words::{Class, Rest};
+use ir_words::{Class, Cursor};
 use std::alloc::Global;
 
 /// Reads the name of a global or of an intrinsic.
-pub fn read_global_use<'t>(alloc: Global, rest: Rest<'t>) -> Result<(NameUse, Rest<'t>), End>
+pub fn read_global_use<'t>(alloc: Global, rest: Cursor<'t>) -> Result<(NameUse, Cursor<'t>), End>
     ensures { Gives (λ x. x) result (global_uses.read rest.entry) }
 {
     match rest.first() {
@@ -25,8 +25,8 @@ pub fn read_global_use<'t>(alloc: Global, rest: Rest<'t>) -> Result<(NameUse, Re
 /// Reads the name of an intrinsic that only carries metadata.
 pub fn read_metadata_intrinsic<'t>(
     alloc: Global,
-    rest: Rest<'t>,
-) -> Result<(NameUse, Rest<'t>), End>
+    rest: Cursor<'t>,
+) -> Result<(NameUse, Cursor<'t>), End>
     ensures { Gives (λ x. x) result ((global_uses_in (Classes.MetadataIntrinsic ∷ [])).read rest.entry) }
 {
     match rest.first() {
@@ -36,7 +36,10 @@ pub fn read_metadata_intrinsic<'t>(
 }
 
 /// Reads the name of an intrinsic that does nothing.
-pub fn read_dropped_intrinsic<'t>(alloc: Global, rest: Rest<'t>) -> Result<(NameUse, Rest<'t>), End>
+pub fn read_dropped_intrinsic<'t>(
+    alloc: Global,
+    rest: Cursor<'t>,
+) -> Result<(NameUse, Cursor<'t>), End>
     ensures { Gives (λ x. x) result ((global_uses_in (Classes.DroppedIntrinsic ∷ [])).read rest.entry) }
 {
     match rest.first() {
@@ -46,7 +49,7 @@ pub fn read_dropped_intrinsic<'t>(alloc: Global, rest: Rest<'t>) -> Result<(Name
 }
 
 /// Reads the name of a function or of an intrinsic that is compiled.
-pub fn read_function_use<'t>(alloc: Global, rest: Rest<'t>) -> Result<(NameUse, Rest<'t>), End>
+pub fn read_function_use<'t>(alloc: Global, rest: Cursor<'t>) -> Result<(NameUse, Cursor<'t>), End>
     ensures { Gives (λ x. x) result ((global_uses_in (Classes.Global ∷ Classes.Intrinsic ∷ [])).read rest.entry) }
 {
     match rest.first() {
@@ -60,7 +63,7 @@ pub fn read_function_use<'t>(alloc: Global, rest: Rest<'t>) -> Result<(NameUse, 
 /// # Errors
 ///
 /// `Bad` at this token if it is none.
-pub fn read_declared_use<'t>(alloc: Global, rest: Rest<'t>) -> Result<(NameUse, Rest<'t>), End>
+pub fn read_declared_use<'t>(alloc: Global, rest: Cursor<'t>) -> Result<(NameUse, Cursor<'t>), End>
     ensures { Gives (λ x. x) result ((global_uses_in (Classes.Global ∷ Classes.DroppedIntrinsic ∷ Classes.Intrinsic ∷ [])).read rest.entry) }
 {
     match rest.first() {

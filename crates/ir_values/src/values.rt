@@ -3,25 +3,24 @@ ghost use Rattle.std.specs.Prelude.{◌≡◌, false, Ok, true};
 ghost use Rattle.ir_types.specs.Types.{types};
 ghost use Rattle.ir_values.specs.Values.{constant_geps, constants, global_uses, operands, operands_within, scalars, typed_literals, typed_operands, word_values};
 ghost use Rattle.ir_rules.specs.Leaves.{flag};
-ghost use Rattle.ir_rules.specs.Reading.{Gives};
+ghost use Rattle.ir_rules.specs.Reading.{Gives, GivesExactly};
 ghost use Rattle.ir_rules.specs.Rules.{each, ◌▷◌, ◌◁◌};
 ghost use Rattle.ir_words.specs.declared.class.Class.TheVariants as Classes;
 
 use crate::globals::read_global_use;
+use ir_ident::NameUse;
 use ir_rules::{End, bad, word};
-use ir_syntax::{
-    ConstantGep, GepParts, NameUse, Operand, TypedLiteral, TypedLiterals, TypedOperand,
-};
+use ir_syntax::{ConstantGep, GepParts, Operand, TypedLiteral, TypedLiterals, TypedOperand};
 use ir_types::{read_literal, read_local_use, read_type};
-use ir_words::{Class, Rest};
+use ir_words::{Class, Cursor};
 use std::alloc::Global;
 
 /// Reads a type of at most so many brackets, and an integer literal.
 pub fn read_typed_literal<'t>(
     alloc: Global,
-    rest: Rest<'t>,
+    rest: Cursor<'t>,
     depth: u8,
-) -> Result<(TypedLiteral, Rest<'t>), End>
+) -> Result<(TypedLiteral, Cursor<'t>), End>
     ensures { Gives (λ x. x) result ((typed_literals depth).read rest.entry) }
 {
     let (ty, rest) = read_type(alloc, rest, depth)?;
@@ -30,7 +29,7 @@ pub fn read_typed_literal<'t>(
 }
 
 /// Reads whether `inbounds` stands here.
-fn read_inbounds<'t>(rest: Rest<'t>) -> (bool, Rest<'t>)
+fn read_inbounds<'t>(rest: Cursor<'t>) -> (bool, Cursor<'t>)
     ensures { (flag Classes.Inbounds).read rest.entry ≡ Ok (result.0, result.1) }
 {
     match rest.first() {
@@ -42,9 +41,9 @@ fn read_inbounds<'t>(rest: Rest<'t>) -> (bool, Rest<'t>)
 /// Reads integer literals with their types, each behind a comma.
 fn read_indices<'t>(
     alloc: Global,
-    rest: Rest<'t>,
+    rest: Cursor<'t>,
     depth: u8,
-) -> Result<(TypedLiterals, Rest<'t>), End>
+) -> Result<(TypedLiterals, Cursor<'t>), End>
     ensures { Gives (λ x. x) result ((each (Classes.Comma ▷ typed_literals depth)).read rest.entry) }
 {
     let mut rest = rest;
@@ -60,9 +59,9 @@ fn read_indices<'t>(
 /// Reads integer literals with their types, each behind a comma, and `)`.
 fn read_last_indices<'t>(
     alloc: Global,
-    rest: Rest<'t>,
+    rest: Cursor<'t>,
     depth: u8,
-) -> Result<(TypedLiterals, Rest<'t>), End>
+) -> Result<(TypedLiterals, Cursor<'t>), End>
     ensures { Gives (λ x. x) result ((each (Classes.Comma ▷ typed_literals depth) ◁ Classes.CloseRound).read rest.entry) }
 {
     let (indices, rest) = read_indices(alloc, rest, depth)?;
@@ -71,7 +70,7 @@ fn read_last_indices<'t>(
 }
 
 /// Reads the address of a global behind a comma.
-fn read_base<'t>(alloc: Global, rest: Rest<'t>) -> Result<(NameUse, Rest<'t>), End>
+fn read_base<'t>(alloc: Global, rest: Cursor<'t>) -> Result<(NameUse, Cursor<'t>), End>
     ensures { Gives (λ x. x) result ((Classes.Comma ▷ Classes.Ptr ▷ global_uses).read rest.entry) }
 {
     let rest = word(rest, Class::Comma)?;
@@ -87,9 +86,9 @@ fn read_base<'t>(alloc: Global, rest: Rest<'t>) -> Result<(NameUse, Rest<'t>), E
 #[tactic(auto, unfolding(crate::specs::Values::gep_forms))]
 pub fn read_constant_gep<'t>(
     alloc: Global,
-    rest: Rest<'t>,
+    rest: Cursor<'t>,
     depth: u8,
-) -> Result<(ConstantGep, Rest<'t>), End>
+) -> Result<(ConstantGep, Cursor<'t>), End>
     ensures { Gives (λ x. x) result ((constant_geps depth).read rest.entry) }
 {
     let rest = word(rest, Class::Getelementptr)?;
@@ -109,8 +108,8 @@ pub fn read_constant_gep<'t>(
 
 /// Reads a value that is a word.
 #[tactic(auto, unfolding(crate::specs::Values::word_forms))]
-fn read_word_value<'t>(rest: Rest<'t>) -> Result<(Operand, Rest<'t>), End>
-    ensures { Gives (λ x. x) result (word_values.read rest.entry) }
+fn read_word_value<'t>(rest: Cursor<'t>) -> Result<(Operand, Cursor<'t>), End>
+    ensures { GivesExactly (λ x. x) result (word_values.read rest.entry) }
 {
     let value = match rest.first() {
         Class::True => Operand::True,
@@ -125,8 +124,8 @@ fn read_word_value<'t>(rest: Rest<'t>) -> Result<(Operand, Rest<'t>), End>
 
 /// Reads a value that is no name.
 #[tactic(auto, unfolding(crate::specs::Values::constant_forms))]
-fn read_constant<'t>(rest: Rest<'t>) -> Result<(Operand, Rest<'t>), End>
-    ensures { Gives (λ x. x) result (constants.read rest.entry) }
+fn read_constant<'t>(rest: Cursor<'t>) -> Result<(Operand, Cursor<'t>), End>
+    ensures { GivesExactly (λ x. x) result (constants.read rest.entry) }
 {
     match rest.first() {
         Class::Int => {
@@ -143,7 +142,7 @@ fn read_constant<'t>(rest: Rest<'t>) -> Result<(Operand, Rest<'t>), End>
 ///
 /// `Bad` at this token if it is none, `NoMemory` if memory runs out.
 #[tactic(auto, unfolding(crate::specs::Values::scalar_forms))]
-pub fn read_scalar<'t>(alloc: Global, rest: Rest<'t>) -> Result<(Operand, Rest<'t>), End>
+pub fn read_scalar<'t>(alloc: Global, rest: Cursor<'t>) -> Result<(Operand, Cursor<'t>), End>
     ensures { Gives (λ x. x) result (scalars.read rest.entry) }
 {
     match rest.first() {
@@ -163,9 +162,9 @@ pub fn read_scalar<'t>(alloc: Global, rest: Rest<'t>) -> Result<(Operand, Rest<'
 #[tactic(auto, unfolding(crate::specs::Values::operand_forms))]
 fn read_operand_within<'t>(
     alloc: Global,
-    rest: Rest<'t>,
+    rest: Cursor<'t>,
     depth: u8,
-) -> Result<(Operand, Rest<'t>), End>
+) -> Result<(Operand, Cursor<'t>), End>
     ensures { Gives (λ x. x) result ((operands_within depth).read rest.entry) }
 {
     match rest.first() {
@@ -178,7 +177,7 @@ fn read_operand_within<'t>(
 }
 
 /// Reads a value.
-pub fn read_operand<'t>(alloc: Global, rest: Rest<'t>) -> Result<(Operand, Rest<'t>), End>
+pub fn read_operand<'t>(alloc: Global, rest: Cursor<'t>) -> Result<(Operand, Cursor<'t>), End>
     ensures { Gives (λ x. x) result (operands.read rest.entry) }
 {
     read_operand_within(alloc, rest, 64)
@@ -192,8 +191,8 @@ pub fn read_operand<'t>(alloc: Global, rest: Rest<'t>) -> Result<(Operand, Rest<
 #[tactic(auto, unfolding(crate::specs::Values::typed_forms))]
 pub fn read_typed_operand<'t>(
     alloc: Global,
-    rest: Rest<'t>,
-) -> Result<(TypedOperand, Rest<'t>), End>
+    rest: Cursor<'t>,
+) -> Result<(TypedOperand, Cursor<'t>), End>
     ensures { Gives (λ x. x) result (typed_operands.read rest.entry) }
 {
     let (ty, rest) = read_type(alloc, rest, 64)?;

@@ -64,9 +64,9 @@ head_line [] = 0
 head_line (lexeme ∷ rest) = lexeme.line
 
 -- a token that begins something that is not compiled
-abbrev pub is_table : Class → Bool
-is_table Less = true
-is_table Ellipsis = true
-is_table Unsupported = true
-is_table UnknownIntrinsic = true
-is_table class = false
+abbrev pub is_unsupported : Class → Bool
+is_unsupported Less = true
+is_unsupported Ellipsis = true
+is_unsupported Unsupported = true
+is_unsupported UnknownIntrinsic = true
+is_unsupported class = false

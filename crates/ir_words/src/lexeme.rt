@@ -1,6 +1,6 @@
 //! What a token is to the grammar, by its kind and its bytes.
 ghost use Rattle.std.specs.Prelude.{◌≡◌};
-ghost use Rattle.ir_words.specs.Classes.{class_in, is_table};
+ghost use Rattle.ir_words.specs.Classes.{class_in, is_unsupported};
 
 use crate::class::Class;
 use crate::global::global_class;
@@ -42,8 +42,8 @@ pub fn class_in(kind: Kind, text: &[u8]) -> Class
 }
 
 /// Whether a token of a class is part of LLVM IR that is not compiled.
-pub fn is_table(class: Class) -> bool
-    ensures { result ≡ is_table class }
+pub fn is_unsupported(class: Class) -> bool
+    ensures { result ≡ is_unsupported class }
 {
     matches!(
         class,

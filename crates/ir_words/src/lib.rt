@@ -2,21 +2,21 @@
 #![tactic(auto)]
 
 mod class;
+mod cursor;
 mod equality;
 mod front;
 mod global;
 mod lexeme;
 mod quoted;
-mod rest;
 mod slice;
 mod table;
 mod width;
 mod word;
 
 pub use class::Class;
+pub use cursor::Cursor;
 pub use equality::is_same;
-pub use lexeme::{class_in, is_table};
+pub use lexeme::{class_in, is_unsupported};
 pub use quoted::{escape_byte, escape_len};
-pub use rest::Rest;
 pub use slice::{byte_at, front_of, rest_of};
 pub use width::are_digits;

@@ -1,8 +1,8 @@
 //! Modules without text, and what of them is not built.
-use cg_part::unbuilt;
+use cg_built::unbuilt;
+use ir_ident::{ItemNumber, Name};
 use ir_syntax::{
-    Aliases, Functions, Global as Variable, Globals, ItemNumber, Linkage, Module, Name, TyText,
-    TypeDefs, Visibility,
+    Aliases, Functions, Global as Variable, Globals, Linkage, Module, TyText, TypeDefs, Visibility,
 };
 use std::alloc::Global;
 use std::test::Fail;

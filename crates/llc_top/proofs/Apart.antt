@@ -8,12 +8,12 @@ use Rattle.std.proofs.lemmas.List.{length-append}
 use Rattle.cg_io.specs.Told.{GivesAll, TakesExactly}
 use Rattle.cg_io.proofs.ToldLemmas.{GivesAll-told}
 use Rattle.cg_part.proofs.AllowedLemmas.{program_allowed, program_shows}
-use Rattle.cg_part.specs.Program.{IsProgram}
+use Rattle.cg_built.specs.Built.{IsProgram}
 use Rattle.cg_part.proofs.AssemblingLemmas.{part_assembles}
 use Rattle.cg_part.proofs.LinkingNames.{part_differs, part_resolves}
 use Rattle.cg_part.proofs.ResolvingLemmas.{text_resolves}
-use Rattle.cg_part.proofs.UnbuiltLemmas.{is_program}
-use Rattle.cg_part.specs.Unbuilt.{first_unbuilt}
+use Rattle.cg_built.proofs.UnbuiltLemmas.{is_program}
+use Rattle.cg_built.specs.Unbuilt.{first_unbuilt}
 use Rattle.ir_read.proofs.OneAnswer.{reads_excludes, reads_unique}
 use Rattle.ir_syntax.specs.declared.function.Function.{Function}
 use Rattle.ir_syntax.specs.declared.module.Module.{Module}

@@ -5,9 +5,9 @@ use Rattle.std.specs.Cmp.Lexicographic.{same_text}
 use Rattle.std.specs.List.{list_any}
 use Rattle.std.specs.Str.{bytes_eq}
 use Rattle.std.proofs.lemmas.Bool.{and_parts, or_cases, eqb-true}
-use Rattle.cg_part.specs.Definitions.{has_body}
+use Rattle.cg_built.specs.Definitions.{has_body}
 use Rattle.cg_part.specs.Meaning.{IsMain}
-use Rattle.cg_part.specs.Program.{function_name}
+use Rattle.cg_built.specs.Built.{function_name}
 use Rattle.ir_check.specs.Signatures.{is_i32, takes_none}
 use Rattle.ir_syntax.specs.Types.{TextTree, int}
 use Rattle.ir_syntax.specs.declared.function.Function.{Function}

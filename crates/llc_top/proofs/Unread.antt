@@ -5,7 +5,7 @@ use Rattle.ir_read.specs.Modules as reading
 use Rattle.ir_read.specs.Refusals.{IsAllocaRefusal, Refuses, refused}
 use Rattle.ir_syntax.specs.declared.refusal.Refusal.{Refusal}
 use Rattle.ir_syntax.specs.declared.refusal.Refusal.TheVariants as refusals
-use Rattle.ir_words.specs.Classes.{first, head_line, head_text, is_table}
+use Rattle.ir_words.specs.Classes.{first, head_line, head_text, is_unsupported}
 use Rattle.ir_words.specs.Lexemes.{Lexeme}
 use Rattle.ir_words.specs.declared.class.Class.{Class}
 use Rattle.ir_words.specs.declared.class.Class.TheVariants.{Alloca}
@@ -36,7 +36,7 @@ of_alloca before bad e (inr (outside, is)) = subst IsOfReader (sym is) tt
 
 of_class : (class : Class) (line : ℕ) (before bad : List Lexeme) (e : Refusal) → Refuses class line before bad e → IsOfReader e
 of_class Alloca line before bad e refused = of_alloca before bad e refused
-of_class class line before bad e refused = subst IsOfReader (sym refused) (of_token line bad (is_table (first bad)))
+of_class class line before bad e refused = subst IsOfReader (sym refused) (of_token line bad (is_unsupported (first bad)))
 
 of_reader : (bytes : List ℕ) (e : Refusal) → reading.IsFirstRefusal bytes e → IsOfReader e
 of_reader bytes e (inl (inl memory)) = subst IsOfReader (sym memory) tt

@@ -1,8 +1,8 @@
 -- The function that a run begins with.
 use Rattle.std.specs.Prelude.{◌&&◌, Bool, bytes_eq, codes}
 use Rattle.std.specs.List.{list_any}
-use Rattle.cg_part.specs.Program.{function_name}
-use Rattle.cg_part.specs.Definitions.{has_body}
+use Rattle.cg_built.specs.Built.{function_name}
+use Rattle.cg_built.specs.Definitions.{has_body}
 use Rattle.ir_check.specs.Signatures.{is_i32, takes_none}
 use Rattle.ir_syntax.specs.declared.function.Function.{Function}
 use Rattle.ir_syntax.specs.declared.module.Module.{Module}

@@ -6,7 +6,7 @@ use Rattle.cg_io.specs.Faults.{Rose}
 use Rattle.cg_io.specs.Told.{GivesAll, TakesExactly, AppendsPrefix}
 use Rattle.cg_part.specs.Program.{program_bytes}
 use Rattle.cg_part.specs.Text.{output_of}
-use Rattle.cg_part.specs.Unbuilt.{first_unbuilt}
+use Rattle.cg_built.specs.Unbuilt.{first_unbuilt}
 use Rattle.ir_read.specs.Modules as reading
 use Rattle.ir_read.specs.Modules.{Reads}
 use Rattle.ir_syntax.specs.declared.module.Module.{Module}

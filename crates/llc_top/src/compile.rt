@@ -2,7 +2,7 @@
 ghost use Rattle.std.specs.Prelude.{◌≡◌, ◌⊎◌, IfOk};
 ghost use Rattle.std.specs.Io.KnownBytes.{Appends};
 ghost use Rattle.cg_io.specs.Faults.{Rose};
-ghost use Rattle.cg_part.specs.Built.{IsBuilt};
+ghost use Rattle.cg_built.specs.Built.{IsBuilt};
 ghost use Rattle.cg_part.specs.Text.{output_of};
 ghost use Rattle.llc_top.specs.Partial.{Written};
 

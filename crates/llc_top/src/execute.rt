@@ -1,7 +1,7 @@
 //! A module, run on the machine.
 ghost use Rattle.std.specs.Prelude.{◌≡◌, ◌⊎◌, true};
 ghost use Rattle.cg_io.specs.Faults.{Rose};
-ghost use Rattle.cg_part.specs.Program.{IsProgram};
+ghost use Rattle.cg_built.specs.Built.{IsProgram};
 ghost use Rattle.llc_top.specs.Main.{has_main};
 ghost use Rattle.llc_top.specs.Partial.{Executed};
 

@@ -1,7 +1,7 @@
 //! A text that was read whole: refused, compiled or run.
 ghost use Rattle.std.specs.Prelude.{◌≡◌, ◌≤◌, ◌⊎◌, length};
 ghost use Rattle.cg_io.specs.Faults.{Rose};
-ghost use Rattle.cg_part.specs.Program.{IsProgram};
+ghost use Rattle.cg_built.specs.Built.{IsProgram};
 ghost use Rattle.llc_top.specs.Outcome.{Answers, text_limit};
 ghost use Rattle.llc_top.specs.Partial.{HasTextReason, HasModuleReason};
 
@@ -10,8 +10,8 @@ use crate::compile::write_output;
 use crate::execute::execute;
 use crate::start::{defines_a_main, has_a_main};
 use crate::status::Status;
+use cg_built::unbuilt;
 use cg_io::Sink;
-use cg_part::unbuilt;
 use ir_read::read_module;
 use ir_syntax::{Module, Refusal};
 use llc_words::{Command, Mode};

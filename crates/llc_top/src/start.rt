@@ -1,10 +1,11 @@
 //! The function that a run begins with.
 ghost use Rattle.std.specs.Prelude.{◌≡◌, bytes_eq, codes};
-ghost use Rattle.ir_syntax.specs.Names.{name_bytes};
+ghost use Rattle.ir_ident.specs.Names.{name_bytes};
 ghost use Rattle.llc_top.specs.Main.{is_defined_main, fits_main, defines_main, has_main};
 
 use ir_check::is_i32;
-use ir_syntax::{Function, Module, Name};
+use ir_ident::Name;
+use ir_syntax::{Function, Module};
 
 /// Whether a `main` is defined.
 pub fn defines_a_main(m: &Module) -> bool

@@ -73,7 +73,7 @@ j_word opcode rd bits =
     opcode + 0x80 * rd + 0x1000 * (bits / 0x1000 % 0x100) + 0x100000 * (bits / 0x800 % 2)
     + 0x200000 * (bits / 2 % 0x400) + 0x80000000 * (bits / 0x100000)
 
--- the low bits of a number in two's complement
+-- a number in two's complement of so many bits; it is to fit into them: below 2 ^ width, and not below -(2 ^ width)
 abbrev pub low_bits : ℕ → ℤ → ℕ
 low_bits width (pos n) = n
 low_bits width (negsuc n) = 2 ^ width - suc n

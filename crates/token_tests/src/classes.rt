@@ -1,6 +1,6 @@
 //! A line as its classes.
 use ir_lex::tokens;
-use ir_words::{Class, Rest, is_same};
+use ir_words::{Class, Cursor, is_same};
 use std::alloc::Global;
 use std::test::Fail;
 
@@ -11,7 +11,7 @@ fn has_classes(alloc: Global, text: &[u8], classes: &[Class]) -> bool {
     }
     match tokens(alloc, text) {
         Ok(tokens) => {
-            let mut rest = Rest::of(text, &tokens);
+            let mut rest = Cursor::of(text, &tokens);
             for class in classes {
                 if !is_same(rest.first(), *class) {
                     return false;

@@ -1,5 +1,5 @@
 -- Sizes and alignments of types in bytes (LangRef, "Data Layout"), by recursion on trees.
-use Rattle.std.specs.Prelude.{ℕ, ◌+◌, ◌*◌, ◌<◌, ◌≤◌, Bool, nat_le, if◌then◌else◌, max, List, [], ◌∷◌}
+use Rattle.std.specs.Prelude.{ℕ, ◌+◌, ◌*◌, ◌<◌, ◌≤◌, Bool, nat_le, if◌then◌else◌, max}
 use Rattle.std.specs.Int.{div_ceil}
 use Rattle.ty_core.specs.declared.extent.Layout.{Layout}
 use Rattle.ty_core.specs.Tree.{Tree, int, ptr, array, struct, Trees, end, more}
@@ -67,16 +67,6 @@ abbrev mutual
   end_of packed at end = at
   end_of packed at (more head tail) =
       end_of packed (begin_at packed at (align_of head) + rounded (size_of head) (align_of head)) tail
-
--- the distance from one element of an array to the next: the size rounded up to the alignment
-abbrev pub stride_of : Tree → ℕ
-stride_of tree = rounded (size_of tree) (align_of tree)
-
--- where each of these fields begins, the first of them behind a field that ends at `at`
-abbrev pub offsets_of : Bool → ℕ → Trees → List ℕ
-offsets_of packed at end = []
-offsets_of packed at (more head tail) =
-    begin_at packed at (align_of head) ∷ offsets_of packed (begin_at packed at (align_of head) + stride_of head) tail
 
 abbrev mutual
   -- the greatest of the sizes of a type and of the types in it

@@ -3,7 +3,7 @@ use ir_attributes::read_attributes;
 use ir_calls::read_call;
 use ir_lex::tokens;
 use ir_syntax::Op;
-use ir_words::{Class, Rest};
+use ir_words::{Class, Cursor};
 use std::alloc::Global;
 use std::test::Fail;
 
@@ -13,13 +13,13 @@ fn is_aligned(alloc: Global, text: &[u8], alignment: Option<u64>) -> bool {
         return false;
     }
     match tokens(alloc, text) {
-        Ok(tokens) => are_aligned(alloc, Rest::of(text, &tokens), alignment),
+        Ok(tokens) => are_aligned(alloc, Cursor::of(text, &tokens), alignment),
         Err(_end) => false,
     }
 }
 
 /// Whether attributes with this alignment stand at the front, and `ret` behind them.
-fn are_aligned<'t>(alloc: Global, rest: Rest<'t>, alignment: Option<u64>) -> bool {
+fn are_aligned<'t>(alloc: Global, rest: Cursor<'t>, alignment: Option<u64>) -> bool {
     match read_attributes(alloc, rest) {
         Ok((found, rest)) => found == alignment && rest.first() == Class::Ret,
         Err(_end) => false,
@@ -40,13 +40,13 @@ fn call_in(alloc: Global, text: &[u8]) -> Found {
         return Found::Bad;
     }
     match tokens(alloc, text) {
-        Ok(tokens) => call_of(alloc, Rest::of(text, &tokens)),
+        Ok(tokens) => call_of(alloc, Cursor::of(text, &tokens)),
         Err(_end) => Found::Bad,
     }
 }
 
 /// What is found in tokens that are a call and no more.
-fn call_of<'t>(alloc: Global, rest: Rest<'t>) -> Found {
+fn call_of<'t>(alloc: Global, rest: Cursor<'t>) -> Found {
     match read_call(alloc, rest) {
         Ok((call, rest)) => {
             if rest.is_empty() {

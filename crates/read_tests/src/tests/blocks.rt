@@ -2,7 +2,7 @@
 use ir_body::read_block;
 use ir_lex::tokens;
 use ir_rules::End;
-use ir_words::Rest;
+use ir_words::Cursor;
 use std::alloc::Global;
 use std::test::Fail;
 
@@ -18,7 +18,7 @@ enum Outcome {
 }
 
 /// How a block at the front of tokens is read.
-fn how_block_ends<'t>(alloc: Global, rest: Rest<'t>, first: bool) -> Outcome {
+fn how_block_ends<'t>(alloc: Global, rest: Cursor<'t>, first: bool) -> Outcome {
     let all = rest.len();
     match read_block(alloc, rest, first) {
         Ok((block, rest)) => {
@@ -36,7 +36,7 @@ fn how_it_ends(alloc: Global, text: &[u8], first: bool) -> Outcome {
         return Outcome::Other;
     }
     match tokens(alloc, text) {
-        Ok(tokens) => how_block_ends(alloc, Rest::of(text, &tokens), first),
+        Ok(tokens) => how_block_ends(alloc, Cursor::of(text, &tokens), first),
         Err(_end) => Outcome::Other,
     }
 }

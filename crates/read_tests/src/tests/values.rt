@@ -1,10 +1,11 @@
 //! Texts of names, literals, types and values, and what is read of them.
+use ir_ident::Name;
 use ir_lex::tokens;
 use ir_rules::End;
-use ir_syntax::{Literal, Name, Operand};
+use ir_syntax::{Literal, Operand};
 use ir_types::{read_literal, read_local_name, read_type};
 use ir_values::read_typed_operand;
-use ir_words::Rest;
+use ir_words::Cursor;
 use std::alloc::Global;
 use std::test::Fail;
 
@@ -52,28 +53,28 @@ fn is_number(name: &Name, wanted: u64) -> bool {
     }
 }
 
-fn is_named<'t>(alloc: Global, rest: Rest<'t>, bytes: &[u8]) -> bool {
+fn is_named<'t>(alloc: Global, rest: Cursor<'t>, bytes: &[u8]) -> bool {
     match read_local_name(alloc, rest) {
         Ok((name, _rest)) => is_text(&name, bytes),
         Err(_end) => false,
     }
 }
 
-fn is_numbered<'t>(alloc: Global, rest: Rest<'t>, wanted: u64) -> bool {
+fn is_numbered<'t>(alloc: Global, rest: Cursor<'t>, wanted: u64) -> bool {
     match read_local_name(alloc, rest) {
         Ok((name, _rest)) => is_number(&name, wanted),
         Err(_end) => false,
     }
 }
 
-fn is_literal<'t>(rest: Rest<'t>, wanted: Literal) -> bool {
+fn is_literal<'t>(rest: Cursor<'t>, wanted: Literal) -> bool {
     match read_literal(rest) {
         Ok((literal, rest)) => literal == wanted && rest.is_empty(),
         Err(_end) => false,
     }
 }
 
-fn is_type<'t>(alloc: Global, rest: Rest<'t>) -> bool {
+fn is_type<'t>(alloc: Global, rest: Cursor<'t>) -> bool {
     match read_type(alloc, rest, 64) {
         Ok((ty, rest)) => {
             drop(ty);
@@ -83,7 +84,7 @@ fn is_type<'t>(alloc: Global, rest: Rest<'t>) -> bool {
     }
 }
 
-fn is_bad_type<'t>(alloc: Global, rest: Rest<'t>, wanted: usize) -> bool {
+fn is_bad_type<'t>(alloc: Global, rest: Cursor<'t>, wanted: usize) -> bool {
     match read_type(alloc, rest, 64) {
         Ok((_ty, _rest)) => false,
         Err(End::NoMemory) => false,
@@ -103,14 +104,14 @@ fn form_of(operand: &Operand) -> Form {
     }
 }
 
-fn value_form<'t>(alloc: Global, rest: Rest<'t>) -> Form {
+fn value_form<'t>(alloc: Global, rest: Cursor<'t>) -> Form {
     match read_typed_operand(alloc, rest) {
         Ok((operand, _rest)) => form_of(&operand.value),
         Err(_end) => Form::Bad,
     }
 }
 
-fn is_wanted<'t>(alloc: Global, rest: Rest<'t>, wanted: Wanted) -> bool {
+fn is_wanted<'t>(alloc: Global, rest: Cursor<'t>, wanted: Wanted) -> bool {
     match wanted {
         Wanted::Named(bytes) => is_named(alloc, rest, bytes),
         Wanted::Numbered(number) => is_numbered(alloc, rest, number),
@@ -128,7 +129,7 @@ fn is_read(alloc: Global, text: &[u8], wanted: Wanted) -> bool {
     }
     match tokens(alloc, text) {
         Ok(tokens) => {
-            let rest = Rest::of(text, &tokens);
+            let rest = Cursor::of(text, &tokens);
             is_wanted(alloc, rest, wanted)
         }
         Err(_end) => false,

@@ -1,6 +1,6 @@
 use Rattle.std.proofs.Common.{◌∙◌, ℕ, List}
-use Rattle.ir_syntax.specs.Names.{name_bytes}
-use Rattle.cg_part.proofs.NameLemmas.{name_is_bare, name_spelled}
+use Rattle.ir_ident.specs.Names.{name_bytes}
+use Rattle.cg_built.proofs.BareNames.{name_is_bare, name_spelled}
 use Rattle.cg_part.proofs.TextLemmas.{function_written}
 use Rattle.cg_part.proofs.text.push_function.Goals as goal
 

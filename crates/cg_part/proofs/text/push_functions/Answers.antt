@@ -1,8 +1,8 @@
 use Rattle.std.proofs.Common.{◌<◌, arith, Contains, filter, length, List, subst, sym}
 use Rattle.std.proofs.lemmas.List.Elements.{All-contains, Contains-get_or}
 use Rattle.ir_syntax.specs.declared.function.Function.{Function}
-use Rattle.cg_part.specs.Built.{IsBuiltFunction}
-use Rattle.cg_part.specs.Definitions.{has_body}
+use Rattle.cg_built.specs.Built.{IsBuiltFunction}
+use Rattle.cg_built.specs.Definitions.{has_body}
 use Rattle.cg_part.proofs.LinkingLists.{among_passing}
 use Rattle.cg_part.proofs.TextLemmas.{part_more}
 use Rattle.cg_part.proofs.text.push_functions.Goals as goal

@@ -1,6 +1,6 @@
 use Rattle.std.proofs.Common.{◌≡◌, ◌++◌, filter, take}
 use Rattle.rv_isa.specs.Lines.{text_of_lines}
-use Rattle.cg_part.specs.Definitions.{has_body}
+use Rattle.cg_built.specs.Definitions.{has_body}
 use Rattle.cg_part.specs.Text.{part_lines}
 use Rattle.cg_part.proofs.text.push_functions.Given as goal
 

@@ -1,5 +1,5 @@
 use Rattle.std.proofs.Common.{refl, rules}
-use Rattle.ir_rules.proofs.Folds.{skipped_ends, skipped_err, skipped_push}
+use Rattle.ir_rules.proofs.Folds.{skipped_ends, skipped_err_exactly, skipped_push}
 use Rattle.ir_rules.proofs.Whole.{read_shorter}
 use Rattle.ir_calls.specs.Calls.{convention}
 use Rattle.ir_calls.proofs.CallLaws.{convention_law}
@@ -7,7 +7,7 @@ use Rattle.ir_calls.proofs.calls.skip_conventions.Goals as goal
 
 pub returns-in_err-rest : goal.returns-in_err-rest
 returns-in_err-rest c =
-    skipped_err convention convention_law refl refl _ (λ r. (tt, r)) c.in_err-rest.field-0.0 _ c.loop-rest.rest _ (search rules) (search rules) (search rules)
+    skipped_err_exactly convention convention_law refl refl _ (λ r. (tt, r)) c.in_err-rest.field-0.0 _ c.loop-rest.rest _ (search rules) (search rules) (search rules)
     c.loop-rest.invariant
 
 pub loop-rest-smaller : goal.loop-rest-smaller

@@ -1,6 +1,6 @@
 use Rattle.std.proofs.Common.{refl, rules}
 use Rattle.ir_words.specs.declared.class.Class.TheVariants as class
-use Rattle.ir_rules.proofs.Folds.{led_skipped_ends, led_skipped_err, led_skipped_push, skipped_begin}
+use Rattle.ir_rules.proofs.Folds.{led_skipped_err, led_skipped_push, skipped_begin}
 use Rattle.ir_rules.proofs.Loops.{led_shorter}
 use Rattle.ir_rules.proofs.Words.{before_law}
 use Rattle.ir_calls.specs.Calls.{metadata_args}

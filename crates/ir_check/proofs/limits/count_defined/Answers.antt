@@ -1,7 +1,7 @@
 use Rattle.std.proofs.Common.{rules, tests}
 use Rattle.std.proofs.lemmas.Iterator.{YieldsList-from_slice}
 use Rattle.std.proofs.lemmas.Iterator.Consumers.{YieldsList-from_filter, count_from_yields_List}
-use Rattle.ir_check.specs.Definitions.{has_body}
+use Rattle.ir_syntax.specs.Definitions.{has_body}
 use Rattle.ir_check.proofs.limits.count_defined.Goals as goal
 
 pub returns : goal.returns

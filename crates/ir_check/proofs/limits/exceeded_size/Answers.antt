@@ -1,8 +1,8 @@
 use Rattle.std.proofs.Common.{◌≡◌, ◌∙◌, Some, None, ap, nat_lt, rules, sym}
 use Rattle.std.specs.List.{list_any, sum, sum_by}
 use Rattle.ir_check.proofs.SizeLemmas.{above-same, first-arm, last-arm, second-arm, total-same}
-use Rattle.ir_check.specs.Capped.{capped}
-use Rattle.ir_check.specs.KeptSizes.{function_size}
+use Rattle.ir_cfg.specs.Capped.{capped}
+use Rattle.ir_cfg.specs.Sizes.{function_size}
 use Rattle.ir_check.specs.declared.limits.Count.TheVariants.{Instructions, OneFunction}
 use Rattle.ir_check.proofs.limits.exceeded_size.Goals as goal
 

@@ -1,7 +1,7 @@
 use Rattle.std.proofs.Common.{◌≡◌, ◌++◌, take}
 use Rattle.ir_check.specs.Repeated.{is_among, repeats}
-use Rattle.ir_syntax.specs.NameMaps.{has_name}
-use Rattle.ir_syntax.specs.declared.name.Name.{Name}
+use Rattle.ir_ident.specs.NameMaps.{has_name}
+use Rattle.ir_ident.specs.declared.name.Name.{Name}
 use Rattle.ir_check.proofs.repeated.push_many_repeats.Given as goal
 
 abbrev pub invariant-loop-defined : goal.invariant-loop-defined

@@ -1,5 +1,5 @@
 use Rattle.std.proofs.Common.{refl, rules}
-use Rattle.ir_rules.proofs.Folds.{folded_ends, folded_err, folded_push}
+use Rattle.ir_rules.proofs.Folds.{folded_ends, folded_err_exactly, folded_push}
 use Rattle.ir_rules.proofs.Whole.{read_shorter}
 use Rattle.ir_globals.specs.Heads.{later_seen, marks}
 use Rattle.ir_globals.proofs.HeadLaws.{marks_law}
@@ -7,7 +7,7 @@ use Rattle.ir_globals.proofs.heads.read_visibility.Goals as goal
 
 pub returns-in_err-found : goal.returns-in_err-found
 returns-in_err-found c =
-    folded_err marks marks_law refl refl later_seen _ (λ x. x) c.in_err-found.field-0.0 _ c.loop-rest.seen c.loop-rest.rest _
+    folded_err_exactly marks marks_law refl refl later_seen _ (λ x. x) c.in_err-found.field-0.0 _ c.loop-rest.seen c.loop-rest.rest _
     (search rules) (search rules) (search rules) c.loop-rest.invariant
 
 pub loop-rest-smaller : goal.loop-rest-smaller

@@ -1,5 +1,5 @@
 use Rattle.std.proofs.Common.{refl, rules}
-use Rattle.ir_rules.proofs.Folds.{folded_ends, folded_err, folded_push}
+use Rattle.ir_rules.proofs.Folds.{folded_ends, folded_err_exactly, folded_push}
 use Rattle.ir_rules.proofs.Whole.{read_shorter}
 use Rattle.ir_attributes.specs.Attributes.{later}
 use Rattle.ir_globals.specs.Variables.{variable_tail}
@@ -8,7 +8,7 @@ use Rattle.ir_globals.proofs.variables.read_variable_tails.Goals as goal
 
 pub returns-in_err-found : goal.returns-in_err-found
 returns-in_err-found c =
-    folded_err variable_tail variable_tail_law refl refl later _ (λ x. x) c.in_err-found.field-0.0 _ c.loop-rest.align c.loop-rest.rest _
+    folded_err_exactly variable_tail variable_tail_law refl refl later _ (λ x. x) c.in_err-found.field-0.0 _ c.loop-rest.align c.loop-rest.rest _
     (search rules) (search rules) (search rules) c.loop-rest.invariant
 
 pub loop-rest-smaller : goal.loop-rest-smaller

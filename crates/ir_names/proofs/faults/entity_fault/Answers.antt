@@ -1,8 +1,8 @@
 use Rattle.std.proofs.Common.{◌≡◌, ◌∙◌, rules, ap}
 use Rattle.ir_names.proofs.FaultLemmas.{entity_whole}
-use Rattle.ir_names.specs.EntityUses.{entity_uses}
+use Rattle.ir_entities.specs.EntityUses.{entity_uses}
 use Rattle.ir_names.specs.Faults.{is_defined}
-use Rattle.ir_names.specs.Items.{entity_items}
+use Rattle.ir_entities.specs.Items.{entity_items}
 use Rattle.ir_names.specs.Sets.{knows}
 use Rattle.ir_names.proofs.faults.entity_fault.Goals as goal
 

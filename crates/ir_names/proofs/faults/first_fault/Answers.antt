@@ -1,7 +1,7 @@
 use Rattle.std.proofs.Common.{◌≡◌, ◌∙◌, rules, ap, flat_map}
 use Rattle.ir_names.proofs.FaultLemmas.{whole}
 use Rattle.ir_names.specs.Faults.{is_defined}
-use Rattle.ir_names.specs.Items.{entity_sites}
+use Rattle.ir_entities.specs.Items.{entity_sites}
 use Rattle.ir_names.specs.Sets.{knows}
 use Rattle.ir_names.proofs.faults.first_fault.Goals as goal
 

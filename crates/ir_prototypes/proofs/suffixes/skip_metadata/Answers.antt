@@ -1,6 +1,6 @@
 use Rattle.std.proofs.Common.{refl, rules}
 use Rattle.ir_words.specs.declared.class.Class.TheVariants as class
-use Rattle.ir_rules.proofs.Folds.{skipped_ends, skipped_err, skipped_push}
+use Rattle.ir_rules.proofs.Folds.{skipped_ends, skipped_err_exactly, skipped_push}
 use Rattle.ir_rules.proofs.Loops.{is_first, not_first}
 use Rattle.ir_rules.proofs.Whole.{read_shorter}
 use Rattle.ir_attributes.specs.Attributes.{attachment}
@@ -9,7 +9,7 @@ use Rattle.ir_prototypes.proofs.suffixes.skip_metadata.Goals as goal
 
 pub returns-in_err-rest : goal.returns-in_err-rest
 returns-in_err-rest c =
-    skipped_err attachment attachment_law refl refl _ (λ r. (tt, r)) c.in_err-rest.field-0.0 _ c.loop-rest.rest _
+    skipped_err_exactly attachment attachment_law refl refl _ (λ r. (tt, r)) c.in_err-rest.field-0.0 _ c.loop-rest.rest _
     (search rules) (is_first class.Meta c.loop-rest.rest (search rules) refl) (search rules) c.loop-rest.invariant
 
 pub loop-rest-smaller : goal.loop-rest-smaller

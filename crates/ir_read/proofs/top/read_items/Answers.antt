@@ -4,7 +4,7 @@ use Rattle.std.proofs.lemmas.List.{append-nil}
 use Rattle.ir_rules.proofs.Folds.{gathered_bad, gathered_ends, gathered_push, passes_on}
 use Rattle.ir_rules.proofs.Whole.{read_shorter}
 use Rattle.ir_read.specs.Entities.{entities}
-use Rattle.ir_names.specs.declared.entity.Entity.{Entity}
+use Rattle.ir_entities.specs.declared.entity.Entity.{Entity}
 use Rattle.ir_read.proofs.EntityLaws.{entities_law}
 use Rattle.ir_read.proofs.Kept.{kept_more, kept_all}
 use Rattle.ir_read.proofs.top.read_items.Goals as goal

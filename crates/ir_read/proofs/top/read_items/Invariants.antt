@@ -3,7 +3,7 @@ use Rattle.std.specs.Prelude.{Option, filter_map}
 use Rattle.ir_rules.specs.Rules.{each}
 use Rattle.ir_rules.proofs.Folds.{gathered}
 use Rattle.ir_read.specs.Entities.{entities, modules}
-use Rattle.ir_names.specs.declared.entity.Entity.{Entity}
+use Rattle.ir_entities.specs.declared.entity.Entity.{Entity}
 use Rattle.ir_read.proofs.top.read_items.Given as goal
 
 abbrev pub invariant-loop-alloc : goal.invariant-loop-alloc

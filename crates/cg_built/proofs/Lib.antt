@@ -1,0 +1,5 @@
+pub mod BareNames
+pub mod BuiltLemmas
+pub mod DistinctNames
+pub mod NoLines
+pub mod UnbuiltLemmas

@@ -1,0 +1,4 @@
+pub mod Built
+pub mod Definitions
+pub mod Params
+pub mod Unbuilt

@@ -1,0 +1,10 @@
+//! The modules of textual LLVM IR that are compiled today, and the first line of any other that is not built yet.
+#![tactic(auto)]
+
+mod built;
+mod params;
+mod symbol;
+
+pub use built::unbuilt;
+pub use params::place_among;
+pub use symbol::bytes_of;

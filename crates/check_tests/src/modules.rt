@@ -1,0 +1,59 @@
+//! Texts in pieces, and modules from them.
+use ir_read::{Entities, Entity, read_entities};
+use ir_syntax::{Aliases, Functions, Globals, Module, TypeDefs};
+use std::alloc::{AllocError, Global};
+
+/// A piece of a text, and how often it stands there.
+pub(crate) type Piece = (usize, &'static str);
+
+/// Adds pieces at the end of a text.
+pub(crate) fn push_pieces(text: &mut Vec<u8>, pieces: &[Piece]) -> Result<(), AllocError> {
+    for (times, piece) in pieces {
+        for _time in 0..*times {
+            text.extend_from_slice(piece.as_bytes())?;
+        }
+    }
+    Ok(())
+}
+
+/// The items of a text, if it is one of the grammar.
+pub(crate) fn read_items(alloc: Global, text: &[u8]) -> Option<Entities> {
+    if text.len() > 16777216 {
+        return None;
+    }
+    match read_entities(alloc, text) {
+        Ok(found) => Some(found),
+        Err(_refusal) => None,
+    }
+}
+
+/// The module of these items, each with its name as it is written. So the text may use a name that nothing defines,
+/// and a number that is not the next one.
+pub(crate) fn module_of(alloc: Global, items: Entities) -> Result<Module, AllocError> {
+    let mut types = Vec::new(alloc);
+    let mut globals = Vec::new(alloc);
+    let mut functions = Vec::new(alloc);
+    let mut aliases = Vec::new(alloc);
+    for item in items.into_vec() {
+        match item {
+            Entity::Type(def) => types.push(def)?,
+            Entity::Global(variable) => globals.push(variable)?,
+            Entity::Function(function) => functions.push(function)?,
+            Entity::Alias(alias) => aliases.push(alias)?,
+        }
+    }
+    Ok(Module {
+        types: TypeDefs::from_vec(types),
+        globals: Globals::from_vec(globals),
+        functions: Functions::from_vec(functions),
+        aliases: Aliases::from_vec(aliases),
+    })
+}
+
+/// The module of a text, if it is one of the grammar.
+pub(crate) fn read(alloc: Global, text: &[u8]) -> Result<Option<Module>, AllocError> {
+    match read_items(alloc, text) {
+        Some(items) => Ok(Some(module_of(alloc, items)?)),
+        None => Ok(None),
+    }
+}

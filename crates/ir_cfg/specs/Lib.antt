@@ -1,0 +1,4 @@
+pub mod Capped
+pub mod Sizes
+pub mod Reached
+pub mod Searches

@@ -1,7 +1,0 @@
-use Rattle.std.proofs.Common.{◌≡◌, take}
-use Rattle.std.specs.List.{sum}
-use Rattle.ir_check.specs.Capped.{capped}
-use Rattle.ir_check.proofs.kept_sizes.total_size.Given as goal
-
-abbrev pub invariant-loop-size : goal.invariant-loop-size
-invariant-loop-size l = l.total ≡ capped (sum (take l.size-index l.sizes))

@@ -1,6 +1,0 @@
-use Rattle.std.proofs.Common.{◌≡◌, ◌++◌, flat_map, take}
-use Rattle.ir_check.specs.Mentions.{global_types}
-use Rattle.ir_check.proofs.mentions.items.push_globals.Given as goal
-
-abbrev pub invariant-loop-global : goal.invariant-loop-global
-invariant-loop-global l = l.types.items ≡ l.initial.types.items ++ flat_map global_types (take l.global-index l.globals)

@@ -1,8 +1,0 @@
-use Rattle.std.proofs.Common.{◌∙◌, ap, is_some}
-use Rattle.ir_check.proofs.RoundLemmas.{is_some-by_table}
-use Rattle.ir_check.specs.Sized.{is_sized}
-use Rattle.ir_check.proofs.sized.is_sized.Goals as goal
-
-pub returns : goal.returns
-returns c = λ defs is.
-    c.is_some.ensures ∙ ap is_some c.measured.ensures.value ∙ is_some-by_table defs c.args.table.now _ is ∙ ap (is_sized defs) c.tree.ensures

@@ -1,6 +1,0 @@
-use Rattle.std.proofs.Common.{◌≡◌, take}
-use Rattle.ir_check.specs.Sized.{unsized_lines_in}
-use Rattle.ir_check.proofs.sized.unsized_lines.Given as goal
-
-abbrev pub invariant-loop-def : goal.invariant-loop-def
-invariant-loop-def l = l.lines.items ≡ unsized_lines_in l.defs (take l.def-index l.defs)

@@ -1,0 +1,50 @@
+-- The types that a module is about, as often as it writes them, and their places.
+use Rattle.std.specs.Prelude.{ℕ, Option, None, Some, List, [], ◌∷◌, ◌++◌, if◌then◌else◌, is_some}
+use Rattle.std.specs.List.{flat_map, list_any, sum_by}
+use Rattle.ir_syntax.specs.Definitions.{has_body}
+use Rattle.ir_mentions.specs.OpTypes.{block_types, maybe_type}
+use Rattle.ir_cfg.specs.Reached.{reachable_body}
+use Rattle.ir_sizes.specs.Sized.{is_small, level_limit, replaced}
+use Rattle.ir_syntax.specs.Types.{TextTree, int, ptr}
+use Rattle.ir_syntax.specs.declared.function.Function.{Function}
+use Rattle.ir_syntax.specs.declared.function.Param.{Param}
+use Rattle.ir_syntax.specs.declared.global.Global.{Global}
+use Rattle.ir_syntax.specs.declared.module.Module.{Module}
+use Rattle.ir_syntax.specs.declared.type_def.TypeDef.{TypeDef}
+use Rattle.ty_core.specs.Places.{places_of}
+use Rattle.ty_core.specs.Tree.{Tree}
+
+-- where a function is defined, the types of numbers of bytes and of conditions, and the pointer
+abbrev pub needed_types : Module → List TextTree
+needed_types m = if list_any has_body m.functions then int 64 ∷ int 1 ∷ ptr ∷ [] else []
+
+-- the type of a defined global
+abbrev pub global_types : Global → List TextTree
+global_types g = if is_some g.init then g.ty ∷ [] else []
+
+abbrev pub param_types : Param → List TextTree
+param_types p = maybe_type p.ty
+
+-- of a defined function the types of the result and the parameters, and those that the blocks write that some path reaches
+abbrev pub function_types : Function → List TextTree
+function_types f =
+    if has_body f then maybe_type f.result ++ (flat_map param_types f.params ++ flat_map block_types (reachable_body f.blocks)) else []
+
+abbrev pub written_types : Module → List TextTree
+written_types m = flat_map global_types m.globals ++ flat_map function_types m.functions
+
+abbrev pub mentions : Module → List TextTree
+mentions m = needed_types m ++ written_types m
+
+-- the places of a type that has a size; no other type counts
+abbrev pub sized_places : Option Tree → ℕ
+sized_places None = 0
+sized_places (Some tree) = if is_small (Some tree) then places_of tree else 0
+
+-- the places of a type with the names in it replaced
+abbrev pub type_places : List TypeDef → TextTree → ℕ
+type_places defs ty = sized_places (replaced defs level_limit ty)
+
+-- the places of all mentions
+abbrev pub mentioned_places : Module → ℕ
+mentioned_places m = sum_by (type_places m.types) (mentions m)

@@ -1,6 +1,0 @@
-use Rattle.std.proofs.Common.{◌≡◌, ◌++◌, take, flat_map}
-use Rattle.ir_names.specs.Items.{entity_sites}
-use Rattle.ir_names.proofs.items.push_entities.Given as goal
-
-abbrev pub invariant-loop-entity : goal.invariant-loop-entity
-invariant-loop-entity l = l.sites.items ≡ l.initial.sites.items ++ flat_map entity_sites (take l.entity-index l.entities)

@@ -1,6 +1,0 @@
-use Rattle.std.proofs.Common.{◌≡◌, ◌++◌, take, flat_map}
-use Rattle.ir_names.specs.OperandUses.{literal_uses}
-use Rattle.ir_names.proofs.uses.operands.push_literals.Given as goal
-
-abbrev pub invariant-loop-literal : goal.invariant-loop-literal
-invariant-loop-literal l = l.sites.items ≡ l.initial.sites.items ++ flat_map literal_uses (take l.literal-index l.literals)

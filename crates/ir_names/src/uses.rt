@@ -1,8 +1,0 @@
-//! The names that each part of a module uses.
-mod blocks;
-mod entities;
-mod operands;
-mod ops;
-mod types;
-
-pub(crate) use entities::push_entity;
