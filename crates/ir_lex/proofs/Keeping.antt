@@ -1,9 +1,7 @@
 -- What the split of a text keeps: the tokens before a place, and its line.
 use Rattle.std.proofs.Common.{◌≡◌, ℕ, ◌+◌, ◌<◌, ◌≤◌, List, [], ◌∷◌, ◌++◌, ◌==◌, ◌||◌, cond, get_or, ap, arith, drop, length, subst, sym, take, refl, ◌∙◌}
-use Rattle.std.specs.List.{All}
 use Rattle.std.proofs.lemmas.List.{get_or-drop, length-drop}
-use Rattle.std.proofs.lemmas.List.Elements.{All-push}
-use Rattle.ir_lex.specs.Splitting.{AreSpans, IsTokenOf, begun, front_of, gap_len, line_feeds, line_of, piece_of, token_at, tokens_from, tokens_of}
+use Rattle.ir_lex.specs.Splitting.{begun, front_of, gap_len, line_feeds, line_of, piece_of, token_at, tokens_from, tokens_of}
 use Rattle.ir_lex.specs.declared.front.Front.{Front}
 use Rattle.ir_lex.specs.declared.kind.Token.{Token}
 use Rattle.ir_lex.specs.declared.piece.Piece.TheVariants.{Gap, Begins}
@@ -11,14 +9,11 @@ use Rattle.ir_lex.specs.Characters.{run}
 use Rattle.ir_lex.specs.declared.class.Class.TheVariants.{Comment}
 use Rattle.ir_lex.proofs.Plain.{first_feed}
 use Rattle.ir_lex.proofs.Scans.{all_begins, all_gap, before, before_all, line_kept}
-use Rattle.ir_lex.proofs.Spans.{spans_later, spans_push, token_is}
 
 pub record Kept (text : List ℕ) (at line : ℕ) (tokens : List Token) : Type 0 where
   pub within : at ≤ length text
   pub here : line ≡ line_of text at
   pub low : line ≤ at + 1
-  pub spans : AreSpans 0 at tokens
-  pub each : All (IsTokenOf text) tokens
   pub left : before tokens (tokens_from text 0 at (drop at text)) ≡ tokens_of text
 
 pub kept_first : (text : List ℕ) → Kept text 0 1 []
@@ -27,8 +22,6 @@ kept_first text = record {
   within = omega arith;
   here = refl;
   low = omega arith;
-  spans = omega arith;
-  each = λ k d h. absurd (omega (arith, h));
   left = before_all text;
 }
 
@@ -49,15 +42,13 @@ module _ (text : List ℕ) (at line feeds n : ℕ) (tokens : List Token) (rest :
     within = within;
     here = line_kept text at n line feeds rest is kept.here counted;
     low = low;
-    spans = spans_later 0 at (at + n) tokens (omega arith) kept.spans;
-    each = kept.each;
     left = all_gap text tokens at n inside some long (piece ∙ ap piece_of is) ∙ kept.left;
   }
 
-  pub kept_begins : (front : Front) → front.len ≡ n → Begins front ≡ piece_of rest → front ≡ front_of rest
+  pub kept_begins : (front : Front) → front.len ≡ n → Begins front ≡ piece_of rest
       → Kept text (at + n) (line + feeds) (tokens ++ record { kind = front.kind; start = at; len = front.len; line = line } ∷ [])
   unfolding token_at
-  kept_begins front len piece own =
+  kept_begins front len piece =
       let token : Token = record { kind = front.kind; start = at; len = front.len; line = line } in
       let has : 0 < front.len = omega (arith, len, some) in
       let ends : at + front.len ≡ at + n = ap (λ k. at + k) len in
@@ -65,8 +56,6 @@ module _ (text : List ℕ) (at line feeds n : ℕ) (tokens : List Token) (rest :
         within = within;
         here = line_kept text at n line feeds rest is kept.here counted;
         low = low;
-        spans = subst (λ k. AreSpans 0 k (tokens ++ token ∷ [])) ends (spans_push 0 at tokens token (omega arith) has kept.spans);
-        each = All-push (IsTokenOf text) tokens token kept.each (token_is text at line front has (own ∙ ap front_of is) kept.here);
         left = ap (λ k. before (tokens ++ token ∷ []) (tokens_from text 0 k (drop k text))) (sym ends)
             ∙ ap (λ l. before (tokens ++ record { kind = front.kind; start = at; len = front.len; line = l } ∷ [])
             (tokens_from text 0 (at + front.len) (drop (at + front.len) text))) kept.here

@@ -11,3 +11,9 @@ pub mod SpelledKinds
 pub mod Starts
 pub mod Plain
 pub mod Fronts
+pub mod Gaps
+pub mod Nothing
+pub mod Within
+pub mod Reading
+pub mod OneKind
+pub mod OneSplit

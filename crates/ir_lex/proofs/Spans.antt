@@ -1,22 +1,11 @@
--- Tokens in order, and one more.
-use Rattle.std.proofs.Common.{◌≡◌, ap, ℕ, ◌+◌, ◌<◌, ◌≤◌, List, [], ◌∷◌, ◌++◌, arith, drop, subst, sym, take}
+-- The longest token at a place is a token of the text.
+use Rattle.std.proofs.Common.{◌≡◌, ap, ℕ, ◌<◌, List, arith, drop, subst, sym, take}
 use Rattle.ir_lex.specs.Spelling.{Spells}
-use Rattle.ir_lex.specs.Splitting.{AreSpans, IsTokenOf, front_of, line_of}
+use Rattle.ir_lex.specs.Splitting.{IsTokenOf, front_of, line_of}
 use Rattle.ir_lex.specs.declared.front.Front.{Front}
-use Rattle.ir_lex.specs.declared.kind.Token.{Token}
 use Rattle.ir_lex.proofs.Longest.{len_is_own}
 use Rattle.ir_lex.proofs.ReachesAll.{reaches}
 use Rattle.ir_lex.proofs.SpelledKinds.{spelled}
-
-pub spans_later : (from end later : ℕ) (tokens : List Token) → end ≤ later → AreSpans from end tokens → AreSpans from later tokens
-spans_later from end later [] h spans = omega (arith, h, spans)
-spans_later from end later (token ∷ tokens) h spans =
-    (spans.0, spans.1, spans_later (token.start + token.len) end later tokens h spans.2)
-
-pub spans_push : (from end : ℕ) (tokens : List Token) (token : Token) → end ≤ token.start → 0 < token.len → AreSpans from end tokens → AreSpans from (token.start + token.len) (tokens ++ token ∷ [])
-spans_push from end [] token h some spans = (omega (arith, h, spans), some, omega arith)
-spans_push from end (first ∷ tokens) token h some spans =
-    (spans.0, spans.1, spans_push (first.start + first.len) end tokens token h some spans.2)
 
 -- the longest token at the front is spelled as its kind says
 pub front_spelled : (bytes : List ℕ) (front : Front) → 0 < front.len → front ≡ front_of bytes → Spells front.kind (take front.len bytes)

@@ -4,6 +4,10 @@ use Rattle.std.specs.List.{prefix_len}
 use Rattle.ir_lex.specs.declared.class.Class.{Class}
 use Rattle.ir_lex.specs.declared.class.Class.TheVariants.{Digit, Hexadecimal, Name, Quoted, Comment}
 
+-- a blank, a tab, a carriage return or a line feed
+abbrev pub is_blank : ℕ → Bool
+is_blank b = b == 32 || b == 9 || b == 13 || b == 10
+
 abbrev pub is_digit : ℕ → Bool
 is_digit b = nat_le 48 b && nat_le b 57
 

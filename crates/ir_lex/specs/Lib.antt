@@ -1,8 +1,10 @@
+pub mod BadPlaces
 pub mod Characters
 pub mod Escapes
 pub mod Lengths
 pub mod Literals
 pub mod Quotes
+pub mod Separated
 pub mod Spelling
 pub mod Splitting
 pub mod Starts

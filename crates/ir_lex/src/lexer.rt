@@ -1,5 +1,7 @@
 //! A text as its tokens.
-ghost use Rattle.std.specs.Prelude.{◌≡◌, ◌≤◌, All, IfOk, length};
+ghost use Rattle.std.specs.Prelude.{◌≡◌, ◌≤◌, ◌↔◌, ℕ, All, Err, IfErr, IfOk, List, Ok, length};
+ghost use Rattle.ir_lex.specs.BadPlaces.{AreTokens, IsAccepted, IsBadPlace, Refuses};
+ghost use Rattle.ir_lex.specs.Separated.{AreSeparated};
 ghost use Rattle.ir_lex.specs.Splitting.{Answers, AreSpans, IsTokenOf, tokens_of};
 
 use crate::feed::feeds_of;
@@ -20,6 +22,9 @@ pub fn tokens(alloc: Global, bytes: &[u8]) -> Result<Tokens, LexEnd>
     ensures value { Answers result (tokens_of bytes.now) }
     ensures spans { IfOk result (AreSpans 0 (length bytes.now)) }
     ensures each { IfOk result (All (IsTokenOf bytes.now)) }
+    ensures accepted { IfOk result (All (IsAccepted bytes.now)) }
+    ensures separated { IfOk result (AreSeparated bytes.now 0 (length bytes.now)) }
+    ensures lex { IfErr result (Refuses bytes.now) }
 {
     let mut tokens = Vec::new(alloc);
     let mut at = 0;
@@ -52,3 +57,9 @@ pub fn tokens(alloc: Global, bytes: &[u8]) -> Result<Tokens, LexEnd>
     }
     Ok(Tokens::from_vec(tokens))
 }
+
+/// A text has one list of tokens, or else one line at which it is refused, and is split so.
+pub fn texts_have_one_splitting()
+    ensures tokens { (bytes : List ℕ) (tokens : List Token) → (tokens_of bytes ≡ Ok tokens) ↔ AreTokens bytes 0 (length bytes) tokens }
+    ensures refused { (bytes : List ℕ) (line : ℕ) → (tokens_of bytes ≡ Err line) ↔ IsBadPlace bytes line }
+{}

@@ -1,7 +1,7 @@
 //! The tokens of textual LLVM IR (LLVM Language Reference Manual, "Identifiers", "Strings" and
 //! "Simple Constants").
 //!
-//! A text is tokens, parted by blanks, tabs, carriage returns, line feeds and comments. A comment
+//! A text is tokens, separated by blanks, tabs, carriage returns, line feeds and comments. A comment
 //! goes from `;` to the end of its line. At each place the longest token is taken.
 #![tactic(auto)]
 
@@ -20,6 +20,6 @@ mod slice;
 mod start;
 
 pub use kind::{Kind, Token};
-pub use lexer::tokens;
+pub use lexer::{texts_have_one_splitting, tokens};
 pub use list::{LexEnd, Tokens};
 pub use literal::is_in_range;

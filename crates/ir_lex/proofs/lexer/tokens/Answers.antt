@@ -1,7 +1,8 @@
 use Rattle.std.proofs.Common.{◌≡◌, ap, length, subst, sym, take, ◌+◌, ◌<◌, ◌≤◌, ◌∙◌, Ok, Err}
-use Rattle.ir_lex.specs.Splitting.{HasBytes, IsFront, line_feeds, piece_len, piece_of}
+use Rattle.ir_lex.specs.Splitting.{HasBytes, line_feeds, piece_len, piece_of}
 use Rattle.ir_lex.specs.declared.piece.Piece.TheVariants.{Begins, Gap}
 use Rattle.ir_lex.proofs.Keeping.{Kept, kept_begins, kept_blank, kept_first, kept_gap}
+use Rattle.ir_lex.proofs.Reading.{place_is_bad, tokens_are}
 use Rattle.ir_lex.proofs.Scans.{all_bad, all_read}
 use Rattle.ir_lex.proofs.lexer.tokens.Goals as goal
 use Rattle.ir_lex.proofs.lexer.tokens.Goals.{in-Gap, in-Begins+in-Ok}
@@ -48,7 +49,7 @@ loop-at-preserved c =
           (subst (λ k. k ≤ length rest) len (subst (λ p. piece_len p ≤ length rest) is c.piece_of-piece.ensures.within))
           (c.feeds_of-line.ensures.value ∙ ap (λ p. line_feeds (take (piece_len p) rest)) w.piece-is ∙ ap (λ k. line_feeds (take k rest)) len)
           (subst (λ k. feeds ≤ k) len (subst (λ p. feeds ≤ piece_len p) w.piece-is c.feeds_of-line.ensures.within))
-          front len (sym is ∙ c.piece_of-piece.ensures.value) (subst (λ p. IsFront p rest) is c.piece_of-piece.ensures.front))
+          front len (sym is ∙ c.piece_of-piece.ensures.value))
     ]
 
 pub returns-clause-value : goal.returns-clause-value
@@ -56,3 +57,18 @@ returns-clause-value c =
     sym c.loop-at.invariant.left
     ∙ all_read c.args.bytes.now c.loop-at.tokens.items c.loop-at.at c.loop-at-test.false
     ∙ ap (λ ts. Ok ts) (sym c.from_vec.ensures)
+
+pub returns-in-Bad-clause-lex : goal.returns-in-Bad-clause-lex
+returns-in-Bad-clause-lex c = place_is_bad c.args.bytes.now c.loop-at.line (returns-in-Bad-clause-value c)
+
+pub returns-clause-spans : goal.returns-clause-spans
+returns-clause-spans c = (tokens_are c.args.bytes.now c.from_vec.result (returns-clause-value c)).spans
+
+pub returns-clause-each : goal.returns-clause-each
+returns-clause-each c = (tokens_are c.args.bytes.now c.from_vec.result (returns-clause-value c)).each
+
+pub returns-clause-accepted : goal.returns-clause-accepted
+returns-clause-accepted c = (tokens_are c.args.bytes.now c.from_vec.result (returns-clause-value c)).accepted
+
+pub returns-clause-separated : goal.returns-clause-separated
+returns-clause-separated c = (tokens_are c.args.bytes.now c.from_vec.result (returns-clause-value c)).separated
