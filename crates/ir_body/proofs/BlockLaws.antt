@@ -12,7 +12,7 @@ use Rattle.ir_rules.proofs.Laws.{Lawful, either_lawful, made_lawful, seq_lawful,
 use Rattle.ir_rules.proofs.Leaves.{leaf_lawful, lined_lawful}
 use Rattle.ir_rules.proofs.Examples.{example}
 use Rattle.ir_rules.proofs.Words.{after_law}
-use Rattle.ir_body.specs.Blocks.{after_statement, block_forms, block_of, blocks, doing_goes, doings, first_place, labels, parts_in, phi_or_op, phi_or_op_forms, results, statement_forms, statement_lists, statement_of, statement_starts, statements}
+use Rattle.ir_body.specs.Blocks.{after_statement, block_forms, block_of, blocks, doing_flast, doings, first_place, labels, parts_in, phi_or_op, phi_or_op_forms, results, statement_forms, statement_lists, statement_of, statement_firsts, statements}
 use Rattle.ir_terms.specs.Phis.{PhiParts}
 use Rattle.ir_terms.proofs.PhiLaws.{phis_law}
 use Rattle.ir_types.specs.Names.{name_of}
@@ -44,7 +44,7 @@ statements_law place.AfterPhis = within_lawful _ _ _ _ (made_lawful statement_of
 pub statement_lists_law : (at : Place) → Lawful (statement_lists at)
 unfolding statement_lists
 statement_lists_law at =
-    chain_lawful statement_starts doing_goes statements after_statement statements_law (λ p. refl) (λ p. refl) (λ p. refl) refl at
+    chain_lawful statement_firsts doing_flast statements after_statement statements_law (λ p. refl) (λ p. refl) (λ p. refl) refl at
 
 labels_law : Lawful labels
 unfolding name_of

@@ -48,37 +48,37 @@ statement_of z = at z.0 z.1.0 z.1.1
 abbrev pub results : Rule Name
 results = local_names ◁ class.Equal
 
-abbrev pub doing_starts : List Class
-doing_starts = class.Phi ∷ class.Alloca ∷ class.Add ∷ class.Sub ∷ class.Mul ∷ class.Shl ∷ class.Udiv ∷ class.Sdiv ∷ class.Lshr ∷ class.Ashr
+abbrev pub doing_firsts : List Class
+doing_firsts = class.Phi ∷ class.Alloca ∷ class.Add ∷ class.Sub ∷ class.Mul ∷ class.Shl ∷ class.Udiv ∷ class.Sdiv ∷ class.Lshr ∷ class.Ashr
     ∷ class.Urem ∷ class.Srem ∷ class.And ∷ class.Or ∷ class.Xor ∷ class.Icmp ∷ class.Select ∷ class.Trunc ∷ class.Zext ∷ class.Sext
     ∷ class.Ptrtoint ∷ class.Inttoptr ∷ class.Bitcast ∷ class.Freeze ∷ class.Getelementptr ∷ class.Load ∷ class.Store
     ∷ class.Tail ∷ class.Notail ∷ class.Call ∷ []
 
-abbrev pub doing_goes : List Class
-doing_goes = class.Comma ∷ class.OpenRound ∷ class.Equal ∷ class.Attribute ∷ class.Align ∷ class.Str ∷ class.Attr ∷ []
+abbrev pub doing_flast : List Class
+doing_flast = class.Comma ∷ class.OpenRound ∷ class.Equal ∷ class.Attribute ∷ class.Align ∷ class.Str ∷ class.Attr ∷ []
 
 -- "phi" .. | op without alloca
 unfoldable pub phi_or_op_forms : Rule PhiOrOp
 phi_or_op_forms = either (made (λ (p : PhiParts). doing.Joins p.0 p.1) phis) (made (λ (op : Option Op). doing.Does op) plain_ops)
 
 abbrev pub phi_or_op : Rule PhiOrOp
-phi_or_op = within doing_starts doing_goes false phi_or_op_forms
+phi_or_op = within doing_firsts doing_flast false phi_or_op_forms
 
 -- In the first block no phi stands, in the others no alloca, and no phi behind an instruction.
 unfoldable pub doings : Place → Rule PhiOrOp
-doings place.Entry = within doing_starts doing_goes false (made (λ (op : Option Op). doing.Does op) entry_ops)
+doings place.Entry = within doing_firsts doing_flast false (made (λ (op : Option Op). doing.Does op) entry_ops)
 doings place.PhisOnly = phi_or_op
-doings place.AfterPhis = within doing_starts doing_goes false (made (λ (op : Option Op). doing.Does op) plain_ops)
+doings place.AfterPhis = within doing_firsts doing_flast false (made (λ (op : Option Op). doing.Does op) plain_ops)
 
 -- [LOCAL =] ("phi" .. | op) md*
 unfoldable pub statement_forms : Place → Rule Statement
 statement_forms at = made statement_of (lined (seq (option results) (doings at)))
 
-abbrev pub statement_starts : List Class
-statement_starts = class.Local ∷ doing_starts
+abbrev pub statement_firsts : List Class
+statement_firsts = class.Local ∷ doing_firsts
 
 abbrev pub statements : Place → Rule Statement
-statements at = within statement_starts doing_goes false (statement_forms at)
+statements at = within statement_firsts doing_flast false (statement_forms at)
 
 abbrev pub after_statement : Place → Statement → Place
 after_statement place.Entry s = place.Entry
@@ -89,7 +89,7 @@ after_statement place.PhisOnly statement.Dropped = place.AfterPhis
 
 -- phi* instr*
 unfoldable pub statement_lists : Place → Rule (List Statement)
-statement_lists at = chain statement_starts doing_goes statements after_statement at
+statement_lists at = chain statement_firsts doing_flast statements after_statement at
 
 abbrev pub phi_in : Statement → Option Phi
 phi_in (statement.Joining p) = Some p
@@ -129,9 +129,9 @@ first_place false = place.PhisOnly
 unfoldable pub block_forms : Bool → Rule Block
 block_forms first = made block_of (lined (seq (option labels) (seq (block_parts (first_place first)) terms)))
 
-abbrev pub block_starts : List Class
-block_starts = class.Label ∷ class.Ret ∷ class.Br ∷ class.Switch ∷ class.Unreachable ∷ statement_starts
+abbrev pub block_firsts : List Class
+block_firsts = class.Label ∷ class.Ret ∷ class.Br ∷ class.Switch ∷ class.Unreachable ∷ statement_firsts
 
 -- a block; the first one of a function or another
 abbrev pub blocks : Bool → Rule Block
-blocks first = within block_starts (class.Comma ∷ []) false (block_forms first)
+blocks first = within block_firsts (class.Comma ∷ []) false (block_forms first)

@@ -25,7 +25,7 @@ pub fn read_block<'t>(
 ) -> Result<(Block, Cursor<'t>), End>
     ensures ok { IfOk result (λ x. IsFront (blocks first) rest.entry x.0 x.1) }
     ensures bad { IfErr result (λ end. StopsAt (blocks first) rest.entry end) }
-    ensures only { (us : List Lexeme) (vs : List Lexeme) (x : Block) → rest.entry ≡ us ++ vs → (blocks first).text us x → begins (blocks first).goes vs ≡ false → Gives (λ x. x) result (Ok (x, vs)) }
+    ensures only { (us : List Lexeme) (vs : List Lexeme) (x : Block) → rest.entry ≡ us ++ vs → (blocks first).text us x → begins (blocks first).flast vs ≡ false → Gives (λ x. x) result (Ok (x, vs)) }
     ensures read { Gives (λ x. x) result ((blocks first).read rest.entry) }
 {
     read_block_text(alloc, rest, first)

@@ -1,6 +1,6 @@
 //! What stands in a block before its terminator.
 ghost use Rattle.std.specs.Prelude.{◌≡◌, ◌++◌, ◌∷◌, [], filter_map, OnOk};
-ghost use Rattle.ir_body.specs.Blocks.{after_statement, block_parts, doings, gives_result, instr_in, phi_in, phi_or_op, result_name, results, statement_of, statement_starts, statements};
+ghost use Rattle.ir_body.specs.Blocks.{after_statement, block_parts, doings, gives_result, instr_in, phi_in, phi_or_op, result_name, results, statement_of, statement_firsts, statements};
 ghost use Rattle.ir_rules.specs.Reading.{Gives};
 ghost use Rattle.ir_rules.specs.Rules.{has, option};
 
@@ -159,7 +159,7 @@ fn keep_statement(
 
 /// Whether a statement may begin with a token of a class.
 fn begins_statement(class: Class) -> bool
-    ensures { result ≡ has statement_starts class }
+    ensures { result ≡ has statement_firsts class }
 {
     matches!(
         class,

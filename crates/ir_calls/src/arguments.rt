@@ -23,7 +23,7 @@ pub(crate) fn read_arg<'t>(alloc: Global, rest: Cursor<'t>) -> Result<(Arg, Curs
     Ok((Arg { ty, align, value }, rest))
 }
 
-/// Reads one argument or more, parted by commas.
+/// Reads one argument or more, separated by commas.
 fn read_some_args<'t>(alloc: Global, rest: Cursor<'t>) -> Result<(Vec<Arg>, Cursor<'t>), End>
     ensures { Gives (λ x. (x.0.items, x.1)) result ((commas_some args).read rest.entry) }
 {
@@ -39,7 +39,7 @@ fn read_some_args<'t>(alloc: Global, rest: Cursor<'t>) -> Result<(Vec<Arg>, Curs
     Ok((list, rest))
 }
 
-/// Reads no argument, or more, parted by commas.
+/// Reads no argument, or more, separated by commas.
 fn read_args<'t>(alloc: Global, rest: Cursor<'t>) -> Result<(Args, Cursor<'t>), End>
     ensures { Gives (λ x. x) result ((commas args).read rest.entry) }
 {
@@ -62,7 +62,7 @@ pub(crate) fn read_arg_list<'t>(alloc: Global, rest: Cursor<'t>) -> Result<(Args
     Ok((args, rest))
 }
 
-/// Reads one type or more, parted by commas.
+/// Reads one type or more, separated by commas.
 fn read_some_types<'t>(alloc: Global, rest: Cursor<'t>) -> Result<(Vec<TyText>, Cursor<'t>), End>
     ensures { Gives (λ x. (x.0.items, x.1)) result ((commas_some (types 64)).read rest.entry) }
 {
@@ -78,7 +78,7 @@ fn read_some_types<'t>(alloc: Global, rest: Cursor<'t>) -> Result<(Vec<TyText>, 
     Ok((list, rest))
 }
 
-/// Reads no type, or more, parted by commas.
+/// Reads no type, or more, separated by commas.
 fn read_types<'t>(alloc: Global, rest: Cursor<'t>) -> Result<(TypeTexts, Cursor<'t>), End>
     ensures { Gives (λ x. x) result ((commas (types 64)).read rest.entry) }
 {

@@ -55,7 +55,7 @@ fn skip_metadata_arg<'t>(alloc: Global, rest: Cursor<'t>) -> Result<Cursor<'t>, 
     }
 }
 
-/// Reads one such argument or more, parted by commas.
+/// Reads one such argument or more, separated by commas.
 fn skip_some_metadata_args<'t>(alloc: Global, rest: Cursor<'t>) -> Result<Cursor<'t>, End>
     ensures { Gives (λ rest. (tt, rest)) result ((made (λ (xs : List (Unit {0})). tt {0}) (commas_some metadata_args)).read rest.entry) }
 {
@@ -76,7 +76,7 @@ pub(crate) fn skip_metadata_list<'t>(alloc: Global, rest: Cursor<'t>) -> Result<
     Ok(word(rest, Class::CloseRound)?)
 }
 
-/// Reads no such argument, or more, parted by commas.
+/// Reads no such argument, or more, separated by commas.
 fn skip_metadata_args<'t>(alloc: Global, rest: Cursor<'t>) -> Result<Cursor<'t>, End>
     ensures { Gives (λ rest. (tt, rest)) result ((made (λ (xs : List (Unit {0})). tt {0}) (commas metadata_args)).read rest.entry) }
 {

@@ -4,8 +4,8 @@ use Rattle.ir_words.specs.Classes.{number}
 use Rattle.ir_words.specs.declared.class.Class.{Class}
 use Rattle.ir_words.specs.declared.class.Class.TheVariants.{End}
 use Rattle.ir_rules.specs.Rules.{has, is_one}
-use Rattle.ir_body.specs.Blocks.{block_starts}
-use Rattle.ir_functions.specs.BlockWords.{computation_words, instruction_words, other_starts}
+use Rattle.ir_body.specs.Blocks.{block_firsts}
+use Rattle.ir_functions.specs.BlockWords.{computation_words, instruction_words, other_firsts}
 
 or_assoc : (a b c : Bool) → ((a || b) || c) ≡ (a || (b || c))
 or_assoc true b c = refl
@@ -25,8 +25,8 @@ has_both cs ds class =
     ∙ over (not (number End == number class)) (is_one cs (number class)) (is_one ds (number class))
 
 -- the groups, in the order of the words
-pub begins_by_parts : (class : Class) → ((has other_starts class || has computation_words class) || has instruction_words class) ≡ has block_starts class
+pub begins_by_parts : (class : Class) → ((has other_firsts class || has computation_words class) || has instruction_words class) ≡ has block_firsts class
 begins_by_parts class =
-    or_assoc (has other_starts class) (has computation_words class) (has instruction_words class)
-    ∙ ap (λ b. has other_starts class || b) (sym (has_both computation_words instruction_words class))
-    ∙ sym (has_both other_starts (computation_words ++ instruction_words) class)
+    or_assoc (has other_firsts class) (has computation_words class) (has instruction_words class)
+    ∙ ap (λ b. has other_firsts class || b) (sym (has_both computation_words instruction_words class))
+    ∙ sym (has_both other_firsts (computation_words ++ instruction_words) class)

@@ -11,5 +11,5 @@ abbrev pub instruction_words : List Class
 instruction_words = class.Trunc ∷ class.Zext ∷ class.Sext ∷ class.Ptrtoint ∷ class.Inttoptr ∷ class.Bitcast ∷ class.Freeze ∷ class.Getelementptr
     ∷ class.Load ∷ class.Store ∷ class.Tail ∷ class.Notail ∷ class.Call ∷ []
 
-abbrev pub other_starts : List Class
-other_starts = class.Label ∷ class.Ret ∷ class.Br ∷ class.Switch ∷ class.Unreachable ∷ class.Local ∷ class.Phi ∷ class.Alloca ∷ []
+abbrev pub other_firsts : List Class
+other_firsts = class.Label ∷ class.Ret ∷ class.Br ∷ class.Switch ∷ class.Unreachable ∷ class.Local ∷ class.Phi ∷ class.Alloca ∷ []

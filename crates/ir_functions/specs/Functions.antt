@@ -9,7 +9,7 @@ use Rattle.ir_words.specs.declared.class.Class.TheVariants as class
 use Rattle.ir_rules.specs.Leaves.{ending, leading, lined}
 use Rattle.ir_rules.specs.Rules.{Rule, ◌▷◌, ◌◁◌, dropped, each, made, option, seq, within, word}
 use Rattle.ir_attributes.specs.Attributes.{attachment}
-use Rattle.ir_body.specs.Blocks.{block_starts, blocks}
+use Rattle.ir_body.specs.Blocks.{block_firsts, blocks}
 use Rattle.ir_globals.specs.Heads.{linkage, visibility}
 use Rattle.ir_entities.specs.declared.entity.Entity.{Entity}
 use Rattle.ir_entities.specs.declared.entity.Entity.TheVariants as entity
@@ -25,7 +25,7 @@ unfoldable pub closed_block_forms : Rule (List Block)
 closed_block_forms = block_lists ◁ class.CloseCurly
 
 abbrev pub closed_blocks : Rule (List Block)
-closed_blocks = within block_starts [] false closed_block_forms
+closed_blocks = within block_firsts [] false closed_block_forms
 
 abbrev pub function_of : ℕ → Linkage → Signature → Option (List Block) → Function
 function_of line linkage s blocks = record {
@@ -47,11 +47,11 @@ unfoldable pub declaration_forms : Rule (Option Entity)
 declaration_forms = made declaration_of (lined (class.Declare ▷ leading (dropped attachment)
     (leading (option (word class.External)) (ending declared_signatures (dropped declared_ends)))))
 
-abbrev pub suffix_goes : List Class
-suffix_goes = class.OpenRound ∷ class.Equal ∷ class.Attribute ∷ class.Align ∷ class.Str ∷ class.Attr ∷ class.UnnamedAddr ∷ class.LocalUnnamedAddr ∷ []
+abbrev pub suffix_flast : List Class
+suffix_flast = class.OpenRound ∷ class.Equal ∷ class.Attribute ∷ class.Align ∷ class.Str ∷ class.Attr ∷ class.UnnamedAddr ∷ class.LocalUnnamedAddr ∷ []
 
 abbrev pub declarations : Rule (Option Entity)
-declarations = within (class.Declare ∷ []) suffix_goes false declaration_forms
+declarations = within (class.Declare ∷ []) suffix_flast false declaration_forms
 
 -- what a definition says before its blocks, on the line of "define"
 abbrev pub Front : Type 0

@@ -3,8 +3,8 @@ ghost use Rattle.std.specs.Prelude.{◌≡◌, Some, None, if◌then◌else◌};
 ghost use Rattle.ir_words.specs.declared.class.Class.TheVariants.{External};
 ghost use Rattle.ir_rules.specs.Reading.{Gives, GivesExactly};
 ghost use Rattle.ir_rules.specs.Rules.{has, option, word};
-ghost use Rattle.ir_body.specs.Blocks.{block_starts};
-ghost use Rattle.ir_functions.specs.BlockWords.{computation_words, instruction_words, other_starts};
+ghost use Rattle.ir_body.specs.Blocks.{block_firsts};
+ghost use Rattle.ir_functions.specs.BlockWords.{computation_words, instruction_words, other_firsts};
 ghost use Rattle.ir_functions.specs.Functions.{block_lists, closed_blocks, declarations, definitions, front_of, function_of, openings};
 ghost use Rattle.ir_prototypes.specs.Prototypes.{signature_of};
 
@@ -130,7 +130,7 @@ fn begins_instruction(class: Class) -> bool
 
 /// Whether a token of a class begins a block, other than by an instruction of those.
 fn begins_otherwise(class: Class) -> bool
-    ensures { result ≡ has other_starts class }
+    ensures { result ≡ has other_firsts class }
 {
     matches!(
         class,
@@ -148,7 +148,7 @@ fn begins_otherwise(class: Class) -> bool
 /// Whether a token of a class begins a block.
 #[tactic(auto, using(crate::proofs::BlockStarts::begins_by_parts))]
 fn begins_block(class: Class) -> bool
-    ensures { result ≡ has block_starts class }
+    ensures { result ≡ has block_firsts class }
 {
     begins_otherwise(class) | begins_computation(class) | begins_instruction(class)
 }

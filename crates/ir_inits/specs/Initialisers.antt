@@ -12,7 +12,7 @@ use Rattle.ir_syntax.specs.declared.operand.Operand.TheVariants.{Gep}
 use Rattle.ir_words.specs.declared.class.Class.TheVariants.{CStr, CloseCurly, ClosePacked, CloseSquare, DroppedIntrinsic, False, Getelementptr, Global, Int, Intrinsic, Local, MetadataIntrinsic, Null, OpenCurly, OpenPacked, OpenSquare, Poison, True, Undef, Zeroinitializer}
 use Rattle.ir_rules.specs.Leaves.{leaf, means}
 use Rattle.ir_rules.specs.Rules.{Rule, ◌▷◌, ◌◁◌, commas, either, made, seq, within}
-use Rattle.ir_types.specs.Types.{type_starts, types}
+use Rattle.ir_types.specs.Types.{type_firsts, types}
 use Rattle.ir_values.specs.Values.{constant_geps, scalars}
 
 -- what stands between the quotes of `c"..."`
@@ -39,7 +39,7 @@ part_of z = record { ty = z.0; init = z.1 }
 
 -- type init
 abbrev pub parts : ℕ → Rule InitText → Rule TypedInit
-parts depth inside = within type_starts [] false (made part_of (seq (types depth) inside))
+parts depth inside = within type_firsts [] false (made part_of (seq (types depth) inside))
 
 -- [ tinit,* ]
 abbrev pub array_inits : Rule TypedInit → Rule InitText

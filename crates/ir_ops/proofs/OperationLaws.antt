@@ -24,26 +24,26 @@ index_tail_law true =
 index_tail_law false = within_lawful _ _ _ _ (before_law class.Comma _ refl refl (made_lawful (λ (u : Unit {0}). None) _ attachment_law)) refl refl refl
 
 -- the sets of both states are the same
-pub index_empty : (before : Bool) → (index_tail before).empty ≡ false
+pub index_empty : (before : Bool) → (index_tail before).nullable ≡ false
 unfolding index_tail
 index_empty true = refl
 index_empty false = refl
 
-index_starts : (before : Bool) → all_in (index_tail before).starts (class.Comma ∷ []) ≡ true
+index_firsts : (before : Bool) → all_in (index_tail before).firsts (class.Comma ∷ []) ≡ true
 unfolding index_tail
-index_starts true = refl
-index_starts false = refl
+index_firsts true = refl
+index_firsts false = refl
 
-index_goes : (before : Bool) → all_in (index_tail before).goes [] ≡ true
+index_flast : (before : Bool) → all_in (index_tail before).flast [] ≡ true
 unfolding index_tail
-index_goes true = refl
-index_goes false = refl
+index_flast true = refl
+index_flast false = refl
 
 pub index_lists_law : Lawful index_lists
 unfolding index_list_forms
 index_lists_law =
     within_lawful _ _ _ _ (made_lawful (λ (found : List (Option TypedOperand)). filter_map (λ o. o) found) _
-    (chain_lawful (class.Comma ∷ []) [] index_tail is_index index_tail_law index_empty index_starts index_goes refl true)) refl refl refl
+    (chain_lawful (class.Comma ∷ []) [] index_tail is_index index_tail_law index_empty index_firsts index_flast refl true)) refl refl refl
 
 geps_law : Lawful geps
 unfolding gep_forms

@@ -15,7 +15,7 @@ use std::alloc::Global;
 
 /// Whether a token of this class begins an operation on memory.
 fn begins_memory_op(class: Class) -> bool
-    ensures { result ≡ has memory_ops.starts class }
+    ensures { result ≡ has memory_ops.firsts class }
 {
     matches!(class, Class::Getelementptr | Class::Load | Class::Store)
 }

@@ -38,9 +38,9 @@ params_in_law true = metadata_params_law
 params_in_law false = params_law
 
 -- no parameter goes on with a comma
-pub next_goes : (metadata : Bool) → apart (class.Comma ▷ params_in metadata).goes (class.Comma ∷ []) ≡ true
-next_goes true = refl
-next_goes false = refl
+pub next_flast : (metadata : Bool) → apart (class.Comma ▷ params_in metadata).flast (class.Comma ∷ []) ≡ true
+next_flast true = refl
+next_flast false = refl
 
 bracketed_law : Lawful (bracketed params)
 bracketed_law = before_law class.OpenRound _ refl refl (after_law _ class.CloseRound refl refl (commas_lawful _ params_law refl refl refl) refl)

@@ -36,22 +36,22 @@ abbrev pub param_names : Rule (Option ℕ × Option (ℕ × Name))
 param_names = within (class.Attribute ∷ class.Align ∷ class.Str ∷ class.Attr ∷ class.Local ∷ [])
     (class.OpenRound ∷ class.Equal ∷ class.Attribute ∷ class.Align ∷ class.Str ∷ class.Attr ∷ class.Local ∷ []) true param_name_forms
 
-abbrev pub param_goes : List Class
-param_goes = class.OpenRound ∷ class.Equal ∷ class.Attribute ∷ class.Align ∷ class.Str ∷ class.Attr ∷ class.Local ∷ []
+abbrev pub param_flast : List Class
+param_flast = class.OpenRound ∷ class.Equal ∷ class.Attribute ∷ class.Align ∷ class.Str ∷ class.Attr ∷ class.Local ∷ []
 
 -- type attr* [LOCAL]
 unfoldable pub param_forms : Rule Param
 param_forms = made param_of (lined (seq (made (λ (t : TextTree). Some t) (types 64)) param_names))
 
 abbrev pub params : Rule Param
-params = within (class.OpenSquare ∷ class.OpenCurly ∷ class.OpenPacked ∷ class.IntType ∷ class.Ptr ∷ class.Local ∷ []) param_goes false param_forms
+params = within (class.OpenSquare ∷ class.OpenCurly ∷ class.OpenPacked ∷ class.IntType ∷ class.Ptr ∷ class.Local ∷ []) param_flast false param_forms
 
 -- (type | "metadata") attr* [LOCAL]
 unfoldable pub metadata_param_forms : Rule Param
 metadata_param_forms = made param_of (lined (seq (either (means class.Metadata None) (made (λ (t : TextTree). Some t) (types 64))) param_names))
 
 abbrev pub metadata_params : Rule Param
-metadata_params = within (class.Metadata ∷ class.OpenSquare ∷ class.OpenCurly ∷ class.OpenPacked ∷ class.IntType ∷ class.Ptr ∷ class.Local ∷ []) param_goes false metadata_param_forms
+metadata_params = within (class.Metadata ∷ class.OpenSquare ∷ class.OpenCurly ∷ class.OpenPacked ∷ class.IntType ∷ class.Ptr ∷ class.Local ∷ []) param_flast false metadata_param_forms
 
 -- parameters of an intrinsic that only carries metadata, or of another function
 abbrev pub params_in : Bool → Rule Param
@@ -100,15 +100,15 @@ signature_of p = (p.visibility, (p.result, (p.name, p.params)))
 unfoldable pub signature_forms : Rule Named → Rule Signature
 signature_forms name = seq visibility (leading attributes (seq result_types name))
 
-abbrev pub signature_starts : List Class
-signature_starts = class.Attribute ∷ class.Align ∷ class.Str ∷ class.Attr ∷ class.Void ∷ class.OpenSquare ∷ class.OpenCurly ∷ class.OpenPacked
+abbrev pub signature_firsts : List Class
+signature_firsts = class.Attribute ∷ class.Align ∷ class.Str ∷ class.Attr ∷ class.Void ∷ class.OpenSquare ∷ class.OpenCurly ∷ class.OpenPacked
     ∷ class.IntType ∷ class.Ptr ∷ class.Local ∷ mark_words
 
 abbrev pub declared_signatures : Rule Signature
-declared_signatures = within signature_starts [] false (signature_forms declared_names)
+declared_signatures = within signature_firsts [] false (signature_forms declared_names)
 
 abbrev pub defined_signatures : Rule Signature
-defined_signatures = within signature_starts [] false (signature_forms defined_names)
+defined_signatures = within signature_firsts [] false (signature_forms defined_names)
 
 -- attr | "unnamed_addr" | "local_unnamed_addr"
 unfoldable pub declared_end_forms : Rule (Unit {0})

@@ -107,7 +107,7 @@ fn read_param<'t>(
 
 /// Whether a token of a class begins a parameter of a type.
 fn begins_typed_param(class: Class) -> bool
-    ensures { result ≡ has params.starts class }
+    ensures { result ≡ has params.firsts class }
 {
     matches!(
         class,
@@ -122,7 +122,7 @@ fn begins_typed_param(class: Class) -> bool
 
 /// Whether a token of a class begins a parameter of a type, or of metadata.
 fn begins_metadata_param(class: Class) -> bool
-    ensures { result ≡ has metadata_params.starts class }
+    ensures { result ≡ has metadata_params.firsts class }
 {
     matches!(
         class,
@@ -138,7 +138,7 @@ fn begins_metadata_param(class: Class) -> bool
 
 /// Whether a token of a class begins a parameter, which may be of metadata or not.
 fn begins_param(class: Class, metadata: bool) -> bool
-    ensures { result ≡ has (commas_some (params_in metadata)).starts class }
+    ensures { result ≡ has (commas_some (params_in metadata)).firsts class }
 {
     if metadata {
         begins_metadata_param(class)
@@ -147,7 +147,7 @@ fn begins_param(class: Class, metadata: bool) -> bool
     }
 }
 
-/// Reads parameters parted by commas, or none.
+/// Reads parameters separated by commas, or none.
 fn read_param_list<'t>(
     alloc: Global,
     rest: Cursor<'t>,

@@ -39,7 +39,7 @@ fn skip_declared_end<'t>(alloc: Global, rest: Cursor<'t>) -> Result<Cursor<'t>, 
 
 /// Whether a token of a class begins an attribute of a declaration.
 fn begins_declared_end(class: Class) -> bool
-    ensures { result ≡ has declared_ends.starts class }
+    ensures { result ≡ has declared_ends.firsts class }
 {
     matches!(
         class,
@@ -76,7 +76,7 @@ fn skip_defined_end<'t>(alloc: Global, rest: Cursor<'t>) -> Result<Cursor<'t>, E
 
 /// Whether a token of a class begins an attribute of a definition, or metadata.
 fn begins_defined_end(class: Class) -> bool
-    ensures { result ≡ has defined_ends.starts class }
+    ensures { result ≡ has defined_ends.firsts class }
 {
     matches!(
         class,

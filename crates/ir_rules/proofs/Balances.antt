@@ -177,11 +177,11 @@ opening_is Square = refl
 opening_is Curly = refl
 opening_is Packed = refl
 
-opener_starts : (b : Bracket) → has (opener b ∷ []) (opener b) ≡ true
-opener_starts Round = refl
-opener_starts Square = refl
-opener_starts Curly = refl
-opener_starts Packed = refl
+opener_firsts : (b : Bracket) → has (opener b ∷ []) (opener b) ≡ true
+opener_firsts Round = refl
+opener_firsts Square = refl
+opener_firsts Curly = refl
+opener_firsts Packed = refl
 
 at_end : (b : Bracket) → (enclosed b).read [] ≡ Err 0
 at_end Round = refl
@@ -225,7 +225,7 @@ enclosed_lawful b = record {
       ∙ (closes w.2 b [] w.6).1 vs
       ∙ done vs;
   some = (opening_of b ∷ closer b ∷ [], tt, example b tt);
-  first = λ t ts x w. ap (has (opener b ∷ [])) (ap (λ (l : Lexeme). class_of l) (same_head t ts w.0 _ w.3) ∙ w.5) ∙ opener_starts b;
+  first = λ t ts x w. ap (has (opener b ∷ [])) (ap (λ (l : Lexeme). class_of l) (same_head t ts w.0 _ w.3) ∙ w.5) ∙ opener_firsts b;
   may_be_empty = λ x w. absurd (none_there w.0 _ w.3);
 }
   where

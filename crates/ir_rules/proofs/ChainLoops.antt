@@ -56,37 +56,37 @@ not_begun class ts e = go (number Class.End) (number (first ts)) (number class) 
     go : (m n k : ℕ) → false ≡ (n == k) → (not (m == n) && (k == n || false)) ≡ false
     go m n k e = grind (arith, nat_tests)
 
-module _ {S A B : Type 0} (starts goes : List Class) (rule : S → Rule A) (next : S → A → S)
-    (laws : (s : S) → Lawful (rule s)) (some : (s : S) → (rule s).empty ≡ false) where
+module _ {S A B : Type 0} (firsts flast : List Class) (rule : S → Rule A) (next : S → A → S)
+    (laws : (s : S) → Lawful (rule s)) (some : (s : S) → (rule s).nullable ≡ false) where
   -- where no item begins, all are read
-  pub chain_done : (f : List A → B) (s : S) (ts : List Lexeme) (whole : Answer B) → into f ((chain starts goes rule next s).read ts) ≡ whole → begins starts ts ≡ false
+  pub chain_done : (f : List A → B) (s : S) (ts : List Lexeme) (whole : Answer B) → into f ((chain firsts flast rule next s).read ts) ≡ whole → begins firsts ts ≡ false
       → whole ≡ Ok (f [], ts)
-  chain_done f s ts whole inv e = sym inv ∙ ap (into f) (chain_ends starts goes rule next laws some s ts e)
+  chain_done f s ts whole inv e = sym inv ∙ ap (into f) (chain_ends firsts flast rule next laws some s ts e)
 
   -- an item's bad token is the chain's
-  pub chain_bad : (f : List A → B) (s : S) (ts : List Lexeme) (n : ℕ) (whole : Answer B) → into f ((chain starts goes rule next s).read ts) ≡ whole → begins starts ts ≡ true
+  pub chain_bad : (f : List A → B) (s : S) (ts : List Lexeme) (n : ℕ) (whole : Answer B) → into f ((chain firsts flast rule next s).read ts) ≡ whole → begins firsts ts ≡ true
       → (rule s).read ts ≡ Err n → whole ≡ Err n
   chain_bad f s ts n whole inv e r =
-      sym inv ∙ ap (into f) (chain_goes starts goes rule next laws some s ts e ∙ ap (λ o. o >>= item_and starts goes rule next s) r)
+      sym inv ∙ ap (into f) (chain_goes firsts flast rule next laws some s ts e ∙ ap (λ o. o >>= item_and firsts flast rule next s) r)
 
   -- one more item
   pub chain_more : (f g : List A → B) (s : S) (x : A) (ts after : List Lexeme) (whole : Answer B) → ((xs : List A) → f (x ∷ xs) ≡ g xs)
-      → begins starts ts ≡ true → (rule s).read ts ≡ Ok (x, after) → into f ((chain starts goes rule next s).read ts) ≡ whole → into g ((chain starts goes rule next (next s x)).read after) ≡ whole
+      → begins firsts ts ≡ true → (rule s).read ts ≡ Ok (x, after) → into f ((chain firsts flast rule next s).read ts) ≡ whole → into g ((chain firsts flast rule next (next s x)).read after) ≡ whole
   chain_more f g s x ts after whole same e r inv =
-      sym (into_item f g x same ((chain starts goes rule next (next s x)).read after))
-      ∙ ap (into f) (sym (chain_goes starts goes rule next laws some s ts e ∙ ap (λ o. o >>= item_and starts goes rule next s) r))
+      sym (into_item f g x same ((chain firsts flast rule next (next s x)).read after))
+      ∙ ap (into f) (sym (chain_goes firsts flast rule next laws some s ts e ∙ ap (λ o. o >>= item_and firsts flast rule next s) r))
       ∙ inv
 
   -- the same, the state after it given
   pub chain_moves : (f g : List A → B) (s to : S) (x : A) (ts after : List Lexeme) (whole : Answer B) → to ≡ next s x → ((xs : List A) → f (x ∷ xs) ≡ g xs)
-      → begins starts ts ≡ true → (rule s).read ts ≡ Ok (x, after) → into f ((chain starts goes rule next s).read ts) ≡ whole
-      → into g ((chain starts goes rule next to).read after) ≡ whole
+      → begins firsts ts ≡ true → (rule s).read ts ≡ Ok (x, after) → into f ((chain firsts flast rule next s).read ts) ≡ whole
+      → into g ((chain firsts flast rule next to).read after) ≡ whole
   chain_moves f g s to x ts after whole is same e r inv =
-      ap (λ t. into g ((chain starts goes rule next t).read after)) is ∙ chain_more f g s x ts after whole same e r inv
+      ap (λ t. into g ((chain firsts flast rule next t).read after)) is ∙ chain_more f g s x ts after whole same e r inv
 
   -- how an item ends other than well, the chain does
   pub chain_fails : {T X : Type 0} (given : T → A × List Lexeme) (view : X → B × List Lexeme) (f : List A → B) (s : S) (ts : List Lexeme) (end : End)
-      (result : Result X End) (whole : Answer B) → into f ((chain starts goes rule next s).read ts) ≡ whole → begins starts ts ≡ true
+      (result : Result X End) (whole : Answer B) → into f ((chain firsts flast rule next s).read ts) ≡ whole → begins firsts ts ≡ true
       → Gives given (Err end) ((rule s).read ts) → result ≡ Err end → Gives view result whole
   chain_fails given view f s ts NoMemory result whole inv e r is = subst (λ o. Gives view o whole) (sym is) tt
   chain_fails given view f s ts (Bad n) result whole inv e r is = subst (λ o. Gives view o whole) (sym is) (chain_bad f s ts n whole inv e r)

@@ -8,17 +8,17 @@ use Rattle.ir_rules.specs.Rules.{Answer, Rule, ◌>>=◌, all_in, apart, begins,
 use Rattle.ir_rules.proofs.Laws.{Lawful, Splits}
 use Rattle.ir_rules.proofs.Sets.{apart_back, head, head-append, not_left, not_right, not_within, same_begins, within_is}
 
-module _ {S A : Type 0} (starts goes : List Class) (rule : S → Rule A) (next : S → A → S) where
+module _ {S A : Type 0} (firsts flast : List Class) (rule : S → Rule A) (next : S → A → S) where
   abbrev pub items : S → Rule (List A)
-  items s = chain starts goes rule next s
+  items s = chain firsts flast rule next s
 
   -- an item, and those after it
   abbrev pub item_and : S → A × List Lexeme → Answer (List A)
   item_and s p = (items (next s p.0)).read p.1 >>= with_item p.0
 
-  module _ (laws : (s : S) → Lawful (rule s)) (some : (s : S) → (rule s).empty ≡ false) where
+  module _ (laws : (s : S) → Lawful (rule s)) (some : (s : S) → (rule s).nullable ≡ false) where
     full : (s : S) (x : A) → (rule s).text [] x → ⊥
-    full s x t = clash (rule s).empty ((laws s).may_be_empty x t) (some s)
+    full s x t = clash (rule s).nullable ((laws s).may_be_empty x t) (some s)
       where
         clash : (e : Bool) → e ≡ true → e ≡ false → ⊥
         clash e p q = cc
@@ -35,38 +35,38 @@ module _ {S A : Type 0} (starts goes : List Class) (rule : S → Rule A) (next :
     agree s ts true (Ok p) w f g same = same p (shorter s ts w.0 p.1 p.0 w.1 w.2)
     agree s ts true (Err n) w f g same = refl
 
-    fuel_same : (n m : ℕ) (s : S) (ts : List Lexeme) → length ts ≤ n → length ts ≤ m → chain_read starts rule next n s ts ≡ chain_read starts rule next m s ts
+    fuel_same : (n m : ℕ) (s : S) (ts : List Lexeme) → length ts ≤ n → length ts ≤ m → chain_read firsts rule next n s ts ≡ chain_read firsts rule next m s ts
     fuel_same zero zero s ts h k = refl
     fuel_same zero (suc m) s [] h k = refl
     fuel_same zero (suc m) s (t ∷ ts) h k = absurd (omega (arith, h))
     fuel_same (suc n) zero s [] h k = refl
     fuel_same (suc n) zero s (t ∷ ts) h k = absurd (omega (arith, k))
     fuel_same (suc n) (suc m) s ts h k =
-        agree s ts (begins starts ts) ((rule s).read ts) ((laws s).splits ts) (λ p. chain_read starts rule next n (next s p.0) p.1 >>= with_item p.0)
-        (λ p. chain_read starts rule next m (next s p.0) p.1 >>= with_item p.0)
+        agree s ts (begins firsts ts) ((rule s).read ts) ((laws s).splits ts) (λ p. chain_read firsts rule next n (next s p.0) p.1 >>= with_item p.0)
+        (λ p. chain_read firsts rule next m (next s p.0) p.1 >>= with_item p.0)
         (λ p l. ap (λ o. o >>= with_item p.0) (fuel_same n m (next s p.0) p.1 (omega (arith, h, l)) (omega (arith, k, l))))
 
     -- one step, with no bound
-    pub chain_step : (s : S) (ts : List Lexeme) → (items s).read ts ≡ (if begins starts ts then ((rule s).read ts >>= item_and s) else Ok ([], ts))
+    pub chain_step : (s : S) (ts : List Lexeme) → (items s).read ts ≡ (if begins firsts ts then ((rule s).read ts >>= item_and s) else Ok ([], ts))
     chain_step s [] = refl
     chain_step s (t ∷ ts) =
-        agree s (t ∷ ts) (begins starts (t ∷ ts)) ((rule s).read (t ∷ ts)) ((laws s).splits (t ∷ ts))
-        (λ p. chain_read starts rule next (length ts) (next s p.0) p.1 >>= with_item p.0) (item_and s)
+        agree s (t ∷ ts) (begins firsts (t ∷ ts)) ((rule s).read (t ∷ ts)) ((laws s).splits (t ∷ ts))
+        (λ p. chain_read firsts rule next (length ts) (next s p.0) p.1 >>= with_item p.0) (item_and s)
         (λ p l. ap (λ o. o >>= with_item p.0) (fuel_same (length ts) (length p.1) (next s p.0) p.1 (omega (arith, l)) (omega arith)))
 
-    pub chain_ends : (s : S) (ts : List Lexeme) → begins starts ts ≡ false → (items s).read ts ≡ Ok ([], ts)
+    pub chain_ends : (s : S) (ts : List Lexeme) → begins firsts ts ≡ false → (items s).read ts ≡ Ok ([], ts)
     chain_ends s ts e = chain_step s ts ∙ ap (λ b. if b then ((rule s).read ts >>= item_and s) else Ok ([], ts)) e
 
-    pub chain_goes : (s : S) (ts : List Lexeme) → begins starts ts ≡ true → (items s).read ts ≡ ((rule s).read ts >>= item_and s)
+    pub chain_goes : (s : S) (ts : List Lexeme) → begins firsts ts ≡ true → (items s).read ts ≡ ((rule s).read ts >>= item_and s)
     chain_goes s ts e = chain_step s ts ∙ ap (λ b. if b then ((rule s).read ts >>= item_and s) else Ok ([], ts)) e
 
-    stays : (ts us rest vs : List Lexeme) (b : Bool) → begins starts ts ≡ b → ts ≡ us ++ rest → head rest ≡ head vs → begins starts (us ++ vs) ≡ b
-    stays ts us rest vs b e is h = same_begins starts (us ++ vs) ts (sym (ap head is ∙ head-append us rest vs h)) ∙ e
+    stays : (ts us rest vs : List Lexeme) (b : Bool) → begins firsts ts ≡ b → ts ≡ us ++ rest → head rest ≡ head vs → begins firsts (us ++ vs) ≡ b
+    stays ts us rest vs b e is h = same_begins firsts (us ++ vs) ts (sym (ap head is ∙ head-append us rest vs h)) ∙ e
 
-    none_splits : (s : S) (ts : List Lexeme) → begins starts ts ≡ false → Splits (items s) ts (Ok ([], ts))
+    none_splits : (s : S) (ts : List Lexeme) → begins firsts ts ≡ false → Splits (items s) ts (Ok ([], ts))
     none_splits s ts e = ([], refl, refl, λ vs h. chain_ends s vs (stays ts [] ts vs false e refl h))
 
-    more_splits : (s : S) (ts us : List Lexeme) (p : A × List Lexeme) (o : Answer (List A)) → begins starts ts ≡ true → ts ≡ us ++ p.1 → (rule s).text us p.0
+    more_splits : (s : S) (ts us : List Lexeme) (p : A × List Lexeme) (o : Answer (List A)) → begins firsts ts ≡ true → ts ≡ us ++ p.1 → (rule s).text us p.0
         → ((vs : List Lexeme) → head p.1 ≡ head vs → (rule s).read (us ++ vs) ≡ Ok (p.0, vs)) → Splits (items (next s p.0)) p.1 o
         → Splits (items s) ts (o >>= with_item p.0)
     more_splits s ts us p (Ok q) b e t on w = (us ++ w.0, is, (us, w.0, refl, t, w.2), λ vs h. again vs h)
@@ -93,7 +93,7 @@ module _ {S A : Type 0} (starts goes : List Class) (rule : S → Rule A) (next :
             ∙ ap (λ o. o >>= item_and s) (on (w.0 ++ vs) (ap head w.4 ∙ head-append w.0 w.1 vs h))
             ∙ ap (λ o. o >>= with_item p.0) (w.7 vs h)
 
-    item_splits : (s : S) (ts : List Lexeme) (o : Answer A) → begins starts ts ≡ true → Splits (rule s) ts o
+    item_splits : (s : S) (ts : List Lexeme) (o : Answer A) → begins firsts ts ≡ true → Splits (rule s) ts o
         → ((p : A × List Lexeme) → suc (length p.1) ≤ length ts → Splits (items (next s p.0)) p.1 ((items (next s p.0)).read p.1))
         → Splits (items s) ts (o >>= item_and s)
     item_splits s ts (Ok p) b w ih =
@@ -113,9 +113,9 @@ module _ {S A : Type 0} (starts goes : List Class) (rule : S → Rule A) (next :
     splits_by : (s : S) (ts : List Lexeme)
         → ((p : A × List Lexeme) → suc (length p.1) ≤ length ts → Splits (items (next s p.0)) p.1 ((items (next s p.0)).read p.1))
         → Splits (items s) ts ((items s).read ts)
-    splits_by s ts ih = subst (Splits (items s) ts) (sym (chain_step s ts)) (go (begins starts ts) refl)
+    splits_by s ts ih = subst (Splits (items s) ts) (sym (chain_step s ts)) (go (begins firsts ts) refl)
       where
-        go : (b : Bool) → begins starts ts ≡ b → Splits (items s) ts (if b then ((rule s).read ts >>= item_and s) else Ok ([], ts))
+        go : (b : Bool) → begins firsts ts ≡ b → Splits (items s) ts (if b then ((rule s).read ts >>= item_and s) else Ok ([], ts))
         go true e = item_splits s ts ((rule s).read ts) e ((laws s).splits ts) ih
         go false e = none_splits s ts e
 
@@ -123,33 +123,33 @@ module _ {S A : Type 0} (starts goes : List Class) (rule : S → Rule A) (next :
     splits_at zero s ts h = splits_by s ts (λ p l. absurd (omega (arith, h, l)))
     splits_at (suc n) s ts h = splits_by s ts (λ p l. splits_at n (next s p.0) p.1 (omega (arith, h, l)))
 
-    module _ (starts_in : (s : S) (c : Class) → has (rule s).starts c ≡ true → has starts c ≡ true)
-        (goes_in : (s : S) (c : Class) → has goes c ≡ false → has (rule s).goes c ≡ false) (on : apart goes starts ≡ true) where
-      text_starts : (s : S) (us rest : List Lexeme) (x : A) → (rule s).text us x → begins starts (us ++ rest) ≡ true
+    module _ (starts_in : (s : S) (c : Class) → has (rule s).firsts c ≡ true → has firsts c ≡ true)
+        (goes_in : (s : S) (c : Class) → has flast c ≡ false → has (rule s).flast c ≡ false) (on : apart flast firsts ≡ true) where
+      text_starts : (s : S) (us rest : List Lexeme) (x : A) → (rule s).text us x → begins firsts (us ++ rest) ≡ true
       text_starts s [] rest x t = absurd (full s x t)
       text_starts s (u ∷ us) rest x t = starts_in s (class_of u) ((laws s).first u us x t)
 
       -- an item is read only where one begins
-      pub read_starts : (s : S) (ts : List Lexeme) (p : A × List Lexeme) → (rule s).read ts ≡ Ok p → begins starts ts ≡ true
+      pub read_starts : (s : S) (ts : List Lexeme) (p : A × List Lexeme) → (rule s).read ts ≡ Ok p → begins firsts ts ≡ true
       read_starts s ts p e = go (subst (Splits (rule s) ts) e ((laws s).splits ts))
         where
-          go : Splits (rule s) ts (Ok p) → begins starts ts ≡ true
-          go w = ap (begins starts) w.1 ∙ text_starts s w.0 p.1 p.0 w.2
+          go : Splits (rule s) ts (Ok p) → begins firsts ts ≡ true
+          go w = ap (begins firsts) w.1 ∙ text_starts s w.0 p.1 p.0 w.2
 
-      pub chain_first : (s : S) (t : Lexeme) (ts : List Lexeme) (xs : List A) → chain_text rule next s (t ∷ ts) xs → has starts (class_of t) ≡ true
+      pub chain_first : (s : S) (t : Lexeme) (ts : List Lexeme) (xs : List A) → chain_text rule next s (t ∷ ts) xs → has firsts (class_of t) ≡ true
       chain_first s t ts [] w = absurd (none w)
         where
           none : t ∷ ts ≡ [] → ⊥
           none e = cc
-      chain_first s t ts (x ∷ xs) w = ap (begins starts) w.2 ∙ text_starts s w.0 w.1 x w.3
+      chain_first s t ts (x ∷ xs) w = ap (begins firsts) w.2 ∙ text_starts s w.0 w.1 x w.3
 
       -- what follows an item goes on with no text of it
-      stops : (s s' : S) (ws vs : List Lexeme) (xs : List A) → chain_text rule next s' ws xs → begins (goes ++ starts) vs ≡ false → begins (rule s).goes (ws ++ vs) ≡ false
-      stops s s' [] vs xs t g = goes_in s (first vs) (not_left goes starts (first vs) g)
-      stops s s' (w ∷ ws) vs xs t g = goes_in s (class_of w) (apart_back goes starts (class_of w) on (chain_first s' w ws xs t))
+      stops : (s s' : S) (ws vs : List Lexeme) (xs : List A) → chain_text rule next s' ws xs → begins (flast ++ firsts) vs ≡ false → begins (rule s).flast (ws ++ vs) ≡ false
+      stops s s' [] vs xs t g = goes_in s (first vs) (not_left flast firsts (first vs) g)
+      stops s s' (w ∷ ws) vs xs t g = goes_in s (class_of w) (apart_back flast firsts (class_of w) on (chain_first s' w ws xs t))
 
-      chain_complete : (xs : List A) (s : S) (us vs : List Lexeme) → chain_text rule next s us xs → begins (goes ++ starts) vs ≡ false → (items s).read (us ++ vs) ≡ Ok (xs, vs)
-      chain_complete [] s us vs w g = ap (λ us. (items s).read (us ++ vs)) w ∙ chain_ends s vs (not_right goes starts (first vs) g)
+      chain_complete : (xs : List A) (s : S) (us vs : List Lexeme) → chain_text rule next s us xs → begins (flast ++ firsts) vs ≡ false → (items s).read (us ++ vs) ≡ Ok (xs, vs)
+      chain_complete [] s us vs w g = ap (λ us. (items s).read (us ++ vs)) w ∙ chain_ends s vs (not_right flast firsts (first vs) g)
       chain_complete (x ∷ xs) s us vs w g =
           ap (λ us. (items s).read (us ++ vs)) w.2
           ∙ ap (λ ws. (items s).read ws) (append_assoc w.0 w.1 vs)
@@ -167,12 +167,12 @@ module _ {S A : Type 0} (starts goes : List Class) (rule : S → Rule A) (next :
       }
 
 -- the sets of each state lie in these
-pub chain_lawful : {S A : Type 0} (starts goes : List Class) (rule : S → Rule A) (next : S → A → S) → ((s : S) → Lawful (rule s)) → ((s : S) → (rule s).empty ≡ false)
-    → ((s : S) → all_in (rule s).starts starts ≡ true) → ((s : S) → all_in (rule s).goes goes ≡ true) → apart goes starts ≡ true → (s : S)
-    → Lawful (chain starts goes rule next s)
-chain_lawful starts goes rule next laws some s_in g_in on s =
-    items_lawful starts goes rule next laws some (λ s c h. within_is (rule s).starts starts c (s_in s) h) (λ s c h. not_within (rule s).goes goes c (g_in s) h) on s
+pub chain_lawful : {S A : Type 0} (firsts flast : List Class) (rule : S → Rule A) (next : S → A → S) → ((s : S) → Lawful (rule s)) → ((s : S) → (rule s).nullable ≡ false)
+    → ((s : S) → all_in (rule s).firsts firsts ≡ true) → ((s : S) → all_in (rule s).flast flast ≡ true) → apart flast firsts ≡ true → (s : S)
+    → Lawful (chain firsts flast rule next s)
+chain_lawful firsts flast rule next laws some s_in g_in on s =
+    items_lawful firsts flast rule next laws some (λ s c h. within_is (rule s).firsts firsts c (s_in s) h) (λ s c h. not_within (rule s).flast flast c (g_in s) h) on s
 
-pub each_lawful : {A : Type 0} (a : Rule A) → Lawful a → a.empty ≡ false → apart a.goes a.starts ≡ true → Lawful (each a)
+pub each_lawful : {A : Type 0} (a : Rule A) → Lawful a → a.nullable ≡ false → apart a.flast a.firsts ≡ true → Lawful (each a)
 each_lawful {A} a la e on =
-    items_lawful {S = Unit {0}} a.starts a.goes (λ s. a) (λ s x. s) (λ s. la) (λ s. e) (λ s c h. h) (λ s c h. h) on tt
+    items_lawful {S = Unit {0}} a.firsts a.flast (λ s. a) (λ s x. s) (λ s. la) (λ s. e) (λ s c h. h) (λ s c h. h) on tt

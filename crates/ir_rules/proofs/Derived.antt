@@ -14,19 +14,19 @@ before_lawful {A} class t k e a la =
     made_lawful (λ (z : Unit {0} × A). z.1) (seq (word class) a) (seq_lawful (word class) a (word_lawful class t k e) la refl)
 
 pub after_lawful : {A : Type 0} (a : Rule A) → Lawful a → (class : Class) (t : Lexeme) → is_word class (class_of t) t.text ≡ Some tt → has (class ∷ []) class ≡ true
-    → apart a.goes (class ∷ []) ≡ true → Lawful (a ◁ class)
+    → apart a.flast (class ∷ []) ≡ true → Lawful (a ◁ class)
 after_lawful {A} a la class t k e on =
     made_lawful (λ (z : A × Unit {0}). z.0) (seq a (word class)) (seq_lawful a (word class) la (word_lawful class t k e) on)
 
-pub option_lawful : {A : Type 0} (a : Rule A) → Lawful a → a.empty ≡ false → Lawful (option a)
+pub option_lawful : {A : Type 0} (a : Rule A) → Lawful a → a.nullable ≡ false → Lawful (option a)
 option_lawful {A} a la e =
     either_lawful (made (λ (x : A). Some x) a) (nothing None) (made_lawful (λ (x : A). Some x) a la) (nothing_lawful None) e refl
 
-pub dropped_lawful : {A : Type 0} (a : Rule A) → Lawful a → a.empty ≡ false → apart a.goes a.starts ≡ true → Lawful (dropped a)
+pub dropped_lawful : {A : Type 0} (a : Rule A) → Lawful a → a.nullable ≡ false → apart a.flast a.firsts ≡ true → Lawful (dropped a)
 dropped_lawful {A} a la e on = made_lawful (λ (xs : List A). tt) (each a) (each_lawful a la e on)
 
--- parted by commas, one or more; what an item goes on with is no comma
-pub commas_some_lawful : {A : Type 0} (a : Rule A) → Lawful a → apart a.goes (Class.Comma ∷ []) ≡ true → apart (Class.Comma ▷ a).goes (Class.Comma ∷ []) ≡ true
+-- separated by commas, one or more; what an item goes on with is no comma
+pub commas_some_lawful : {A : Type 0} (a : Rule A) → Lawful a → apart a.flast (Class.Comma ∷ []) ≡ true → apart (Class.Comma ▷ a).flast (Class.Comma ∷ []) ≡ true
     → Lawful (commas_some a)
 commas_some_lawful {A} a la on again =
     made_lawful (λ (z : A × List A). z.0 ∷ z.1) (seq a (each (Class.Comma ▷ a)))
@@ -34,6 +34,6 @@ commas_some_lawful {A} a la on again =
     (each_lawful (Class.Comma ▷ a) (before_lawful Class.Comma (sample kind.Comma []) refl refl a la) refl again) on)
 
 -- none or more
-pub commas_lawful : {A : Type 0} (a : Rule A) → Lawful a → (a.empty && true) ≡ false → apart a.goes (Class.Comma ∷ []) ≡ true
-    → apart (Class.Comma ▷ a).goes (Class.Comma ∷ []) ≡ true → Lawful (commas a)
+pub commas_lawful : {A : Type 0} (a : Rule A) → Lawful a → (a.nullable && true) ≡ false → apart a.flast (Class.Comma ∷ []) ≡ true
+    → apart (Class.Comma ▷ a).flast (Class.Comma ∷ []) ≡ true → Lawful (commas a)
 commas_lawful a la e on again = either_lawful (commas_some a) (nothing []) (commas_some_lawful a la on again) (nothing_lawful []) e refl

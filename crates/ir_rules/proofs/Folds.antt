@@ -49,28 +49,28 @@ gathered_item : {A B : Type 0} (give later : List A → B) (x : A) → ((xs : Li
 gathered_item give later x same (Ok q) = ap (λ y. Ok (y, q.1)) (same q.0)
 gathered_item give later x same (Err n) = refl
 
-module _ {A : Type 0} (a : Rule A) (la : Lawful a) (some : a.empty ≡ false) (on : apart a.goes a.starts ≡ true) where
+module _ {A : Type 0} (a : Rule A) (la : Lawful a) (some : a.nullable ≡ false) (on : apart a.flast a.firsts ≡ true) where
   abbrev and_more : A × List Lexeme → Answer (List A)
-  and_more p = item_and {S = Unit {0}} a.starts a.goes (λ s. a) (λ s x. s) tt p
+  and_more p = item_and {S = Unit {0}} a.firsts a.flast (λ s. a) (λ s x. s) tt p
 
-  goes_on : (ts : List Lexeme) → begins a.starts ts ≡ true → (each a).read ts ≡ (a.read ts >>= (λ (p : A × List Lexeme). and_more p))
-  goes_on ts e = chain_goes {S = Unit {0}} a.starts a.goes (λ s. a) (λ s x. s) (λ s. la) (λ s. some) tt ts e
+  goes_on : (ts : List Lexeme) → begins a.firsts ts ≡ true → (each a).read ts ≡ (a.read ts >>= (λ (p : A × List Lexeme). and_more p))
+  goes_on ts e = chain_goes {S = Unit {0}} a.firsts a.flast (λ s. a) (λ s x. s) (λ s. la) (λ s. some) tt ts e
 
-module _ {A B : Type 0} (a : Rule A) (la : Lawful a) (some : a.empty ≡ false) (on : apart a.goes a.starts ≡ true) where
+module _ {A B : Type 0} (a : Rule A) (la : Lawful a) (some : a.nullable ≡ false) (on : apart a.flast a.firsts ≡ true) where
   -- where no item begins, the tree is that of no items
-  pub gathered_ends : (give : List A → B) (ts : List Lexeme) (whole : Answer B) → gathered give ((each a).read ts) ≡ whole → begins a.starts ts ≡ false
+  pub gathered_ends : (give : List A → B) (ts : List Lexeme) (whole : Answer B) → gathered give ((each a).read ts) ≡ whole → begins a.firsts ts ≡ false
       → whole ≡ Ok (give [], ts)
   gathered_ends give ts whole inv e =
-      sym inv ∙ ap (gathered give) (chain_ends {S = Unit {0}} a.starts a.goes (λ s. a) (λ s x. s) (λ s. la) (λ s. some) tt ts e)
+      sym inv ∙ ap (gathered give) (chain_ends {S = Unit {0}} a.firsts a.flast (λ s. a) (λ s x. s) (λ s. la) (λ s. some) tt ts e)
 
   -- an item's bad token is that of all
-  pub gathered_bad : (give : List A → B) (ts : List Lexeme) (whole : Answer B) (n : ℕ) → gathered give ((each a).read ts) ≡ whole → begins a.starts ts ≡ true
+  pub gathered_bad : (give : List A → B) (ts : List Lexeme) (whole : Answer B) (n : ℕ) → gathered give ((each a).read ts) ≡ whole → begins a.firsts ts ≡ true
       → a.read ts ≡ Err n → whole ≡ Err n
   gathered_bad give ts whole n inv e r =
       sym inv ∙ ap (gathered give) (goes_on a la some on ts e ∙ ap (λ o. o >>= (λ (p : A × List Lexeme). and_more a la some on p)) r)
 
   pub gathered_err : {T U : Type 0} (view : T → B × List Lexeme) (part_view : U → A × List Lexeme) (e : End) (result : Result T End) (give : List A → B)
-      (ts : List Lexeme) (whole : Answer B) → result ≡ Err e → begins a.starts ts ≡ true → Gives part_view (Err e) (a.read ts)
+      (ts : List Lexeme) (whole : Answer B) → result ≡ Err e → begins a.firsts ts ≡ true → Gives part_view (Err e) (a.read ts)
       → gathered give ((each a).read ts) ≡ whole → Gives view result whole
   gathered_err view part_view e result give ts whole is b g inv = passes_on view part_view e result (a.read ts) whole is (λ n r. gathered_bad give ts whole n inv b r) g
 
@@ -82,26 +82,26 @@ module _ {A B : Type 0} (a : Rule A) (la : Lawful a) (some : a.empty ≡ false) 
       ∙ ap (gathered give) (sym (goes_on a la some on ts begun ∙ ap (λ o. o >>= (λ (p : A × List Lexeme). and_more a la some on p)) r))
       ∙ inv
     where
-      begun : begins a.starts ts ≡ true
-      begun = read_starts {S = Unit {0}} a.starts a.goes (λ s. a) (λ s x. s) (λ s. la) (λ s. some) (λ s c h. h) (λ s c h. h) on tt ts (x, after) r
+      begun : begins a.firsts ts ≡ true
+      begun = read_starts {S = Unit {0}} a.firsts a.flast (λ s. a) (λ s x. s) (λ s. la) (λ s. some) (λ s c h. h) (λ s c h. h) on tt ts (x, after) r
 
-module _ {A B : Type 0} (a : Rule A) (la : Lawful a) (some : a.empty ≡ false) (on : apart a.goes a.starts ≡ true) (f : B → A → B) where
-  pub folded_ends : (state : B) (ts : List Lexeme) (whole : Answer B) → folded f state ((each a).read ts) ≡ whole → begins a.starts ts ≡ false
+module _ {A B : Type 0} (a : Rule A) (la : Lawful a) (some : a.nullable ≡ false) (on : apart a.flast a.firsts ≡ true) (f : B → A → B) where
+  pub folded_ends : (state : B) (ts : List Lexeme) (whole : Answer B) → folded f state ((each a).read ts) ≡ whole → begins a.firsts ts ≡ false
       → whole ≡ Ok (state, ts)
   folded_ends state ts whole inv e = gathered_ends a la some on (λ (xs : List A). fold f state xs) ts whole inv e
 
-  pub folded_bad : (state : B) (ts : List Lexeme) (whole : Answer B) (n : ℕ) → folded f state ((each a).read ts) ≡ whole → begins a.starts ts ≡ true
+  pub folded_bad : (state : B) (ts : List Lexeme) (whole : Answer B) (n : ℕ) → folded f state ((each a).read ts) ≡ whole → begins a.firsts ts ≡ true
       → a.read ts ≡ Err n → whole ≡ Err n
   folded_bad state ts whole n inv e r = gathered_bad a la some on (λ (xs : List A). fold f state xs) ts whole n inv e r
 
   pub folded_err : {T U : Type 0} (view : T → B × List Lexeme) (part_view : U → A × List Lexeme) (e : End) (result : Result T End) (state : B)
-      (ts : List Lexeme) (whole : Answer B) → result ≡ Err e → begins a.starts ts ≡ true → Gives part_view (Err e) (a.read ts)
+      (ts : List Lexeme) (whole : Answer B) → result ≡ Err e → begins a.firsts ts ≡ true → Gives part_view (Err e) (a.read ts)
       → folded f state ((each a).read ts) ≡ whole → Gives view result whole
   folded_err view part_view e result state ts whole is b g inv =
       passes_on view part_view e result (a.read ts) whole is (λ n r. folded_bad state ts whole n inv b r) g
 
   pub folded_err_exactly : {T U : Type 0} (view : T → B × List Lexeme) (part_view : U → A × List Lexeme) (e : End) (result : Result T End) (state : B)
-      (ts : List Lexeme) (whole : Answer B) → result ≡ Err e → begins a.starts ts ≡ true → GivesExactly part_view (Err e) (a.read ts)
+      (ts : List Lexeme) (whole : Answer B) → result ≡ Err e → begins a.firsts ts ≡ true → GivesExactly part_view (Err e) (a.read ts)
       → folded f state ((each a).read ts) ≡ whole → GivesExactly view result whole
   folded_err_exactly view part_view e result state ts whole is b g inv =
       passes_on_exactly view part_view e result (a.read ts) whole is (λ n r. folded_bad state ts whole n inv b r) g
@@ -112,21 +112,21 @@ module _ {A B : Type 0} (a : Rule A) (la : Lawful a) (some : a.empty ≡ false) 
       ap (λ s. folded f s ((each a).read after)) is
       ∙ gathered_push a la some on (λ (xs : List A). fold f state xs) (λ (xs : List A). fold f (f state x) xs) x ts after whole (λ xs. refl) r inv
 
-module _ {A : Type 0} (a : Rule A) (la : Lawful a) (some : a.empty ≡ false) (on : apart a.goes a.starts ≡ true) where
-  pub skipped_ends : (ts : List Lexeme) (whole : Answer (Unit {0})) → skipped ((each a).read ts) ≡ whole → begins a.starts ts ≡ false → whole ≡ Ok (tt, ts)
+module _ {A : Type 0} (a : Rule A) (la : Lawful a) (some : a.nullable ≡ false) (on : apart a.flast a.firsts ≡ true) where
+  pub skipped_ends : (ts : List Lexeme) (whole : Answer (Unit {0})) → skipped ((each a).read ts) ≡ whole → begins a.firsts ts ≡ false → whole ≡ Ok (tt, ts)
   skipped_ends ts whole inv e = gathered_ends a la some on (λ (xs : List A). tt) ts whole inv e
 
-  pub skipped_bad : (ts : List Lexeme) (whole : Answer (Unit {0})) (n : ℕ) → skipped ((each a).read ts) ≡ whole → begins a.starts ts ≡ true
+  pub skipped_bad : (ts : List Lexeme) (whole : Answer (Unit {0})) (n : ℕ) → skipped ((each a).read ts) ≡ whole → begins a.firsts ts ≡ true
       → a.read ts ≡ Err n → whole ≡ Err n
   skipped_bad ts whole n inv e r = gathered_bad a la some on (λ (xs : List A). tt) ts whole n inv e r
 
   pub skipped_err : {T U : Type 0} (view : T → Unit {0} × List Lexeme) (part_view : U → A × List Lexeme) (e : End) (result : Result T End)
-      (ts : List Lexeme) (whole : Answer (Unit {0})) → result ≡ Err e → begins a.starts ts ≡ true → Gives part_view (Err e) (a.read ts)
+      (ts : List Lexeme) (whole : Answer (Unit {0})) → result ≡ Err e → begins a.firsts ts ≡ true → Gives part_view (Err e) (a.read ts)
       → skipped ((each a).read ts) ≡ whole → Gives view result whole
   skipped_err view part_view e result ts whole is b g inv = passes_on view part_view e result (a.read ts) whole is (λ n r. skipped_bad ts whole n inv b r) g
 
   pub skipped_err_exactly : {T U : Type 0} (view : T → Unit {0} × List Lexeme) (part_view : U → A × List Lexeme) (e : End) (result : Result T End)
-      (ts : List Lexeme) (whole : Answer (Unit {0})) → result ≡ Err e → begins a.starts ts ≡ true → GivesExactly part_view (Err e) (a.read ts)
+      (ts : List Lexeme) (whole : Answer (Unit {0})) → result ≡ Err e → begins a.firsts ts ≡ true → GivesExactly part_view (Err e) (a.read ts)
       → skipped ((each a).read ts) ≡ whole → GivesExactly view result whole
   skipped_err_exactly view part_view e result ts whole is b g inv =
       passes_on_exactly view part_view e result (a.read ts) whole is (λ n r. skipped_bad ts whole n inv b r) g
@@ -136,7 +136,7 @@ module _ {A : Type 0} (a : Rule A) (la : Lawful a) (some : a.empty ≡ false) (o
   skipped_push x ts after whole r inv = gathered_push a la some on (λ (xs : List A). tt) (λ (xs : List A). tt) x ts after whole (λ xs. refl) r inv
 
 -- items that each begin with one word, of which nothing is kept
-module _ {A : Type 0} (class : Class) (a : Rule A) (la : Lawful (class ▷ a)) (on : apart (class ▷ a).goes (class ∷ []) ≡ true) where
+module _ {A : Type 0} (class : Class) (a : Rule A) (la : Lawful (class ▷ a)) (on : apart (class ▷ a).flast (class ∷ []) ≡ true) where
   pub led_skipped_ends : (ts : List Lexeme) (whole : Answer (Unit {0})) → skipped ((each (class ▷ a)).read ts) ≡ whole
       → false ≡ (number (first ts) == number class) → whole ≡ Ok (tt, ts)
   led_skipped_ends ts whole inv e = skipped_ends (class ▷ a) la refl on ts whole inv (not_first class ts e)
@@ -161,7 +161,7 @@ module _ {A : Type 0} (class : Class) (a : Rule A) (la : Lawful (class ▷ a)) (
       → skipped ((each (class ▷ a)).read ts) ≡ whole → skipped ((each (class ▷ a)).read after) ≡ whole
   led_skipped_push x ts after whole f r inv = skipped_push (class ▷ a) la refl on x ts after whole (word_read class a ts (Ok (x, after)) f r) inv
 
--- the first of items parted by commas, of which nothing is kept
+-- the first of items separated by commas, of which nothing is kept
 pub skipped_begin : {A : Type 0} (a : Rule A) (x : A) (ts after : List Lexeme) → a.read ts ≡ Ok (x, after)
     → skipped ((each (Classes.Comma ▷ a)).read after) ≡ skipped ((commas_some a).read ts)
 skipped_begin {A} a x ts after r = joined ((each (Classes.Comma ▷ a)).read after) ∙ ap (λ o. skipped (o >>= more >>= join)) (sym r)

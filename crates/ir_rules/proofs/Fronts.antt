@@ -74,5 +74,5 @@ module _ {A : Type 0} (r : Rule A) (lr : Lawful r) where
   gives_stop ts (Err (Bad n)) g = front_stops ts n g
 
   pub gives_only : (ts : List Lexeme) (result : Result (A × List Lexeme) End) → Gives (λ x. x) result (r.read ts)
-      → (us vs : List Lexeme) (x : A) → ts ≡ us ++ vs → r.text us x → begins r.goes vs ≡ false → Gives (λ x. x) result (Ok (x, vs))
+      → (us vs : List Lexeme) (x : A) → ts ≡ us ++ vs → r.text us x → begins r.flast vs ≡ false → Gives (λ x. x) result (Ok (x, vs))
   gives_only ts result g us vs x e t stops = subst (Gives (λ x. x) result) (ap r.read e ∙ lr.complete us vs x t stops) g

@@ -21,11 +21,11 @@ pub record Lawful {A : Type 0} (r : Rule A) : Type 0 where
   -- it reads a text or stops at a bad token, by the next token alone
   pub splits : (ts : List Lexeme) → Splits r ts (r.read ts)
   -- it reads each text that no token goes on
-  pub complete : (us vs : List Lexeme) (x : A) → r.text us x → begins r.goes vs ≡ false → r.read (us ++ vs) ≡ Ok (x, vs)
+  pub complete : (us vs : List Lexeme) (x : A) → r.text us x → begins r.flast vs ≡ false → r.read (us ++ vs) ≡ Ok (x, vs)
   -- it has a text
   pub some : (us : List Lexeme) × (x : A) × r.text us x
-  pub first : (t : Lexeme) (ts : List Lexeme) (x : A) → r.text (t ∷ ts) x → has r.starts (class_of t) ≡ true
-  pub may_be_empty : (x : A) → r.text [] x → r.empty ≡ true
+  pub first : (t : Lexeme) (ts : List Lexeme) (x : A) → r.text (t ∷ ts) x → has r.firsts (class_of t) ≡ true
+  pub may_be_empty : (x : A) → r.text [] x → r.nullable ≡ true
 
 -- a token, as an example of its kind
 abbrev pub sample : Kind → List ℕ → Lexeme
@@ -124,18 +124,18 @@ module _ {A B : Type 0} (f : A → B) (a : Rule A) where
 
 -- sets stated
 
-module _ {A : Type 0} (starts goes : List Class) (empty : Bool) (r : Rule A) where
-  within_splits : (ts : List Lexeme) (o : Answer A) → Splits r ts o → Splits (within starts goes empty r) ts o
+module _ {A : Type 0} (firsts flast : List Class) (nullable : Bool) (r : Rule A) where
+  within_splits : (ts : List Lexeme) (o : Answer A) → Splits r ts o → Splits (within firsts flast nullable r) ts o
   within_splits ts (Ok p) w = w
   within_splits ts (Err n) w = w
 
-  pub within_lawful : Lawful r → all_in r.starts starts ≡ true → all_in r.goes goes ≡ true → (r.empty && empty) ≡ r.empty → Lawful (within starts goes empty r)
+  pub within_lawful : Lawful r → all_in r.firsts firsts ≡ true → all_in r.flast flast ≡ true → (r.nullable && nullable) ≡ r.nullable → Lawful (within firsts flast nullable r)
   within_lawful lr s g e = record {
     splits = λ ts. within_splits ts (r.read ts) (lr.splits ts);
-    complete = λ us vs x w n. lr.complete us vs x w (not_within r.goes goes (first vs) g n);
+    complete = λ us vs x w n. lr.complete us vs x w (not_within r.flast flast (first vs) g n);
     some = lr.some;
-    first = λ t ts x w. within_is r.starts starts (class_of t) s (lr.first t ts x w);
-    may_be_empty = λ x w. go r.empty empty e (lr.may_be_empty x w);
+    first = λ t ts x w. within_is r.firsts firsts (class_of t) s (lr.first t ts x w);
+    may_be_empty = λ x w. go r.nullable nullable e (lr.may_be_empty x w);
   }
     where
       go : (b e : Bool) → (b && e) ≡ b → b ≡ true → e ≡ true
@@ -184,25 +184,25 @@ module _ {A B : Type 0} (a : Rule A) (b : Rule B) where
   seq_splits us0 x0 t0 sb ts (Err n) w =
       (w.0, w.1, w.2 ++ us0, (w.3, x0), w.4, w.5, (w.0 ++ w.2, us0, sym (append_assoc w.0 w.2 us0), w.6, t0), λ vs h. ap (λ o. o >>= (λ (p : A × List Lexeme). second p)) (w.7 vs h))
 
-  module _ (la : Lawful a) (lb : Lawful b) (on : apart a.goes b.starts ≡ true) where
+  module _ (la : Lawful a) (lb : Lawful b) (on : apart a.flast b.firsts ≡ true) where
     -- what follows goes on with no text of the first
-    stops : (ws vs : List Lexeme) (y : B) → b.text ws y → begins (seq a b).goes vs ≡ false → begins a.goes (ws ++ vs) ≡ false
+    stops : (ws vs : List Lexeme) (y : B) → b.text ws y → begins (seq a b).flast vs ≡ false → begins a.flast (ws ++ vs) ≡ false
     stops [] vs y t g =
-        not_right b.goes a.goes (first vs) (subst (λ e. begins (b.goes ++ when e a.goes) vs ≡ false) (lb.may_be_empty y t) g)
-    stops (w ∷ ws) vs y t g = apart_back a.goes b.starts (class_of w) on (lb.first w ws y t)
+        not_right b.flast a.flast (first vs) (subst (λ e. begins (b.flast ++ when e a.flast) vs ≡ false) (lb.may_be_empty y t) g)
+    stops (w ∷ ws) vs y t g = apart_back a.flast b.firsts (class_of w) on (lb.first w ws y t)
 
     seq_first : (us ws : List Lexeme) (t : Lexeme) (ts : List Lexeme) (x : A) (y : B) → t ∷ ts ≡ us ++ ws → a.text us x → b.text ws y
-        → has (seq a b).starts (class_of t) ≡ true
+        → has (seq a b).firsts (class_of t) ≡ true
     seq_first [] ws t ts x y e m n =
-        subst (λ e. has (a.starts ++ when e b.starts) (class_of t) ≡ true) (sym (la.may_be_empty x m))
-        (has_right a.starts b.starts (class_of t) (lb.first t ts y (subst (λ l. b.text l y) (sym e) n)))
-    seq_first (u ∷ us) ws t ts x y e m n = has_left a.starts (when a.empty b.starts) (class_of t) (subst (λ v. has a.starts (class_of v) ≡ true) same (la.first u us x m))
+        subst (λ e. has (a.firsts ++ when e b.firsts) (class_of t) ≡ true) (sym (la.may_be_empty x m))
+        (has_right a.firsts b.firsts (class_of t) (lb.first t ts y (subst (λ l. b.text l y) (sym e) n)))
+    seq_first (u ∷ us) ws t ts x y e m n = has_left a.firsts (when a.nullable b.firsts) (class_of t) (subst (λ v. has a.firsts (class_of v) ≡ true) same (la.first u us x m))
       where
         same : u ≡ t
         same = cc
 
-    seq_empty : (us ws : List Lexeme) (x : A) (y : B) → [] ≡ us ++ ws → a.text us x → b.text ws y → (a.empty && b.empty) ≡ true
-    seq_empty [] ws x y e m n = ap (λ c. c && b.empty) (la.may_be_empty x m) ∙ lb.may_be_empty y (subst (λ l. b.text l y) (sym e) n)
+    seq_empty : (us ws : List Lexeme) (x : A) (y : B) → [] ≡ us ++ ws → a.text us x → b.text ws y → (a.nullable && b.nullable) ≡ true
+    seq_empty [] ws x y e m n = ap (λ c. c && b.nullable) (la.may_be_empty x m) ∙ lb.may_be_empty y (subst (λ l. b.text l y) (sym e) n)
     seq_empty (u ∷ us) ws x y e m n = absurd (cc)
 
     pub seq_lawful : Lawful (seq a b)
@@ -212,7 +212,7 @@ module _ {A B : Type 0} (a : Rule A) (b : Rule B) where
           ap (λ ws. a.read (ws ++ vs) >>= (λ (p : A × List Lexeme). second p)) w.2
           ∙ ap (λ ws. a.read ws >>= (λ (p : A × List Lexeme). second p)) (append_assoc w.0 w.1 vs)
           ∙ ap (λ o. o >>= (λ (p : A × List Lexeme). second p)) (la.complete w.0 (w.1 ++ vs) z.0 w.3 (stops w.1 vs z.1 w.4 g))
-          ∙ ap (λ o. o >>= (λ (q : B × List Lexeme). pair z.0 q)) (lb.complete w.1 vs z.1 w.4 (not_left b.goes (when b.empty a.goes) (first vs) g));
+          ∙ ap (λ o. o >>= (λ (q : B × List Lexeme). pair z.0 q)) (lb.complete w.1 vs z.1 w.4 (not_left b.flast (when b.nullable a.flast) (first vs) g));
       some = (la.some.0 ++ lb.some.0, (la.some.1, lb.some.1), (la.some.0, lb.some.0, refl, la.some.2, lb.some.2));
       first = λ t ts z w. seq_first w.0 w.1 t ts z.0 z.1 w.2 w.3 w.4;
       may_be_empty = λ z w. seq_empty w.0 w.1 z.0 z.1 w.2 w.3 w.4;
@@ -221,63 +221,63 @@ module _ {A B : Type 0} (a : Rule A) (b : Rule B) where
 -- one or the other
 
 module _ {A : Type 0} (a b : Rule A) where
-  by_first : (ws : List Lexeme) (t : Bool) → begins a.starts ws ≡ t → (either a b).read ws ≡ (if t then a.read ws else b.read ws)
+  by_first : (ws : List Lexeme) (t : Bool) → begins a.firsts ws ≡ t → (either a b).read ws ≡ (if t then a.read ws else b.read ws)
   by_first ws t e = ap (λ t. if t then a.read ws else b.read ws) e
 
-  either_left : (ts : List Lexeme) (o : Answer A) → begins a.starts ts ≡ true → Splits a ts o → Splits (either a b) ts o
-  either_left ts (Ok p) e w = (w.0, w.1, inl w.2, λ vs h. by_first (w.0 ++ vs) true (same_begins a.starts (w.0 ++ vs) ts (sym (ap head w.1 ∙ head-append w.0 p.1 vs h)) ∙ e) ∙ w.3 vs h)
+  either_left : (ts : List Lexeme) (o : Answer A) → begins a.firsts ts ≡ true → Splits a ts o → Splits (either a b) ts o
+  either_left ts (Ok p) e w = (w.0, w.1, inl w.2, λ vs h. by_first (w.0 ++ vs) true (same_begins a.firsts (w.0 ++ vs) ts (sym (ap head w.1 ∙ head-append w.0 p.1 vs h)) ∙ e) ∙ w.3 vs h)
   either_left ts (Err n) e w =
-      (w.0, w.1, w.2, w.3, w.4, w.5, inl w.6, λ vs h. by_first (w.0 ++ vs) true (same_begins a.starts (w.0 ++ vs) ts (sym (ap head w.4 ∙ head-append w.0 w.1 vs h)) ∙ e) ∙ w.7 vs h)
+      (w.0, w.1, w.2, w.3, w.4, w.5, inl w.6, λ vs h. by_first (w.0 ++ vs) true (same_begins a.firsts (w.0 ++ vs) ts (sym (ap head w.4 ∙ head-append w.0 w.1 vs h)) ∙ e) ∙ w.7 vs h)
 
-  either_right : (ts : List Lexeme) (o : Answer A) → begins a.starts ts ≡ false → Splits b ts o → Splits (either a b) ts o
-  either_right ts (Ok p) e w = (w.0, w.1, inr w.2, λ vs h. by_first (w.0 ++ vs) false (same_begins a.starts (w.0 ++ vs) ts (sym (ap head w.1 ∙ head-append w.0 p.1 vs h)) ∙ e) ∙ w.3 vs h)
+  either_right : (ts : List Lexeme) (o : Answer A) → begins a.firsts ts ≡ false → Splits b ts o → Splits (either a b) ts o
+  either_right ts (Ok p) e w = (w.0, w.1, inr w.2, λ vs h. by_first (w.0 ++ vs) false (same_begins a.firsts (w.0 ++ vs) ts (sym (ap head w.1 ∙ head-append w.0 p.1 vs h)) ∙ e) ∙ w.3 vs h)
   either_right ts (Err n) e w =
-      (w.0, w.1, w.2, w.3, w.4, w.5, inr w.6, λ vs h. by_first (w.0 ++ vs) false (same_begins a.starts (w.0 ++ vs) ts (sym (ap head w.4 ∙ head-append w.0 w.1 vs h)) ∙ e) ∙ w.7 vs h)
+      (w.0, w.1, w.2, w.3, w.4, w.5, inr w.6, λ vs h. by_first (w.0 ++ vs) false (same_begins a.firsts (w.0 ++ vs) ts (sym (ap head w.4 ∙ head-append w.0 w.1 vs h)) ∙ e) ∙ w.7 vs h)
 
-  module _ (la : Lawful a) (lb : Lawful b) (some : a.empty ≡ false) (apart_ones : apart b.starts a.starts ≡ true) where
-    either_splits : (ts : List Lexeme) (t : Bool) → begins a.starts ts ≡ t → Splits (either a b) ts (if t then a.read ts else b.read ts)
+  module _ (la : Lawful a) (lb : Lawful b) (some : a.nullable ≡ false) (apart_ones : apart b.firsts a.firsts ≡ true) where
+    either_splits : (ts : List Lexeme) (t : Bool) → begins a.firsts ts ≡ t → Splits (either a b) ts (if t then a.read ts else b.read ts)
     either_splits ts true e = either_left ts (a.read ts) e (la.splits ts)
     either_splits ts false e = either_right ts (b.read ts) e (lb.splits ts)
 
     full : (x : A) → a.text [] x → ⊥
-    full x t = clash a.empty (la.may_be_empty x t) some
+    full x t = clash a.nullable (la.may_be_empty x t) some
       where
         clash : (e : Bool) → e ≡ true → e ≡ false → ⊥
         clash e p q = cc
 
-    left_complete : (us vs : List Lexeme) (x : A) → a.text us x → begins (either a b).goes vs ≡ false → (either a b).read (us ++ vs) ≡ Ok (x, vs)
+    left_complete : (us vs : List Lexeme) (x : A) → a.text us x → begins (either a b).flast vs ≡ false → (either a b).read (us ++ vs) ≡ Ok (x, vs)
     left_complete [] vs x t g = absurd (full x t)
     left_complete (u ∷ us) vs x t g =
         by_first (u ∷ (us ++ vs)) true (la.first u us x t)
-        ∙ la.complete (u ∷ us) vs x t (not_left a.goes (b.goes ++ when b.empty a.starts) (first vs) g)
+        ∙ la.complete (u ∷ us) vs x t (not_left a.flast (b.flast ++ when b.nullable a.firsts) (first vs) g)
 
-    right_goes : (vs : List Lexeme) → begins (either a b).goes vs ≡ false → begins b.goes vs ≡ false
-    right_goes vs g = not_left b.goes (when b.empty a.starts) (first vs) (not_right a.goes (b.goes ++ when b.empty a.starts) (first vs) g)
+    right_flast : (vs : List Lexeme) → begins (either a b).flast vs ≡ false → begins b.flast vs ≡ false
+    right_flast vs g = not_left b.flast (when b.nullable a.firsts) (first vs) (not_right a.flast (b.flast ++ when b.nullable a.firsts) (first vs) g)
 
-    right_complete : (us vs : List Lexeme) (x : A) → b.text us x → begins (either a b).goes vs ≡ false → (either a b).read (us ++ vs) ≡ Ok (x, vs)
+    right_complete : (us vs : List Lexeme) (x : A) → b.text us x → begins (either a b).flast vs ≡ false → (either a b).read (us ++ vs) ≡ Ok (x, vs)
     right_complete [] vs x t g =
-        by_first vs false (not_right b.goes a.starts (first vs)
-        (subst (λ e. begins (b.goes ++ when e a.starts) vs ≡ false) (lb.may_be_empty x t) (not_right a.goes (b.goes ++ when b.empty a.starts) (first vs) g)))
-        ∙ lb.complete [] vs x t (right_goes vs g)
+        by_first vs false (not_right b.flast a.firsts (first vs)
+        (subst (λ e. begins (b.flast ++ when e a.firsts) vs ≡ false) (lb.may_be_empty x t) (not_right a.flast (b.flast ++ when b.nullable a.firsts) (first vs) g)))
+        ∙ lb.complete [] vs x t (right_flast vs g)
     right_complete (u ∷ us) vs x t g =
-        by_first (u ∷ (us ++ vs)) false (apart_is b.starts a.starts (class_of u) apart_ones (lb.first u us x t))
-        ∙ lb.complete (u ∷ us) vs x t (right_goes vs g)
+        by_first (u ∷ (us ++ vs)) false (apart_is b.firsts a.firsts (class_of u) apart_ones (lb.first u us x t))
+        ∙ lb.complete (u ∷ us) vs x t (right_flast vs g)
 
-    either_complete : (us vs : List Lexeme) (x : A) → a.text us x ⊎ b.text us x → begins (either a b).goes vs ≡ false → (either a b).read (us ++ vs) ≡ Ok (x, vs)
+    either_complete : (us vs : List Lexeme) (x : A) → a.text us x ⊎ b.text us x → begins (either a b).flast vs ≡ false → (either a b).read (us ++ vs) ≡ Ok (x, vs)
     either_complete us vs x (inl t) g = left_complete us vs x t g
     either_complete us vs x (inr t) g = right_complete us vs x t g
 
-    either_first : (t : Lexeme) (ts : List Lexeme) (x : A) → a.text (t ∷ ts) x ⊎ b.text (t ∷ ts) x → has (a.starts ++ b.starts) (class_of t) ≡ true
-    either_first t ts x (inl w) = has_left a.starts b.starts (class_of t) (la.first t ts x w)
-    either_first t ts x (inr w) = has_right a.starts b.starts (class_of t) (lb.first t ts x w)
+    either_first : (t : Lexeme) (ts : List Lexeme) (x : A) → a.text (t ∷ ts) x ⊎ b.text (t ∷ ts) x → has (a.firsts ++ b.firsts) (class_of t) ≡ true
+    either_first t ts x (inl w) = has_left a.firsts b.firsts (class_of t) (la.first t ts x w)
+    either_first t ts x (inr w) = has_right a.firsts b.firsts (class_of t) (lb.first t ts x w)
 
-    either_empty : (x : A) → a.text [] x ⊎ b.text [] x → b.empty ≡ true
+    either_empty : (x : A) → a.text [] x ⊎ b.text [] x → b.nullable ≡ true
     either_empty x (inl w) = absurd (full x w)
     either_empty x (inr w) = lb.may_be_empty x w
 
     pub either_lawful : Lawful (either a b)
     either_lawful = record {
-      splits = λ ts. either_splits ts (begins a.starts ts) refl;
+      splits = λ ts. either_splits ts (begins a.firsts ts) refl;
       complete = either_complete;
       some = (la.some.0, la.some.1, inl la.some.2);
       first = either_first;

@@ -25,16 +25,16 @@ pub flag_lawful : (class : Class) (t : Lexeme) → is_word class (class_of t) t.
 flag_lawful class t k e =
     made_lawful (λ (o : Option (Unit {0})). is_some o) (option (word class)) (option_lawful (word class) (word_lawful class t k e) refl)
 
-pub ending_lawful : {A B : Type 0} (a : Rule A) (b : Rule B) → Lawful a → Lawful b → apart a.goes b.starts ≡ true → Lawful (ending a b)
+pub ending_lawful : {A B : Type 0} (a : Rule A) (b : Rule B) → Lawful a → Lawful b → apart a.flast b.firsts ≡ true → Lawful (ending a b)
 ending_lawful {A} {B} a b la lb on = made_lawful (λ (z : A × B). z.0) (seq a b) (seq_lawful a b la lb on)
 
-pub leading_lawful : {A B : Type 0} (a : Rule A) (b : Rule B) → Lawful a → Lawful b → apart a.goes b.starts ≡ true → Lawful (leading a b)
+pub leading_lawful : {A B : Type 0} (a : Rule A) (b : Rule B) → Lawful a → Lawful b → apart a.flast b.firsts ≡ true → Lawful (leading a b)
 leading_lawful {A} {B} a b la lb on = made_lawful (λ (z : A × B). z.1) (seq a b) (seq_lawful a b la lb on)
 
-module _ {A : Type 0} (a : Rule A) (la : Lawful a) (some : a.empty ≡ false) where
+module _ {A : Type 0} (a : Rule A) (la : Lawful a) (some : a.nullable ≡ false) where
   -- a text of it has a first token, so what follows doesn't change the line
   line_stays : (us vs : List Lexeme) (x : A) → a.text us x → head_line (us ++ vs) ≡ head_line us
-  line_stays [] vs x t = absurd (clash a.empty (la.may_be_empty x t) some)
+  line_stays [] vs x t = absurd (clash a.nullable (la.may_be_empty x t) some)
     where
       clash : (e : Bool) → e ≡ true → e ≡ false → ⊥
       clash e p q = cc

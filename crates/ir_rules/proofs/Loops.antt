@@ -63,23 +63,23 @@ front_and : {A : Type 0} (front : List A) (x : A) (o : Answer (List A)) → with
 front_and front x (Ok q) = ap (λ l. Ok (l, q.1)) (sym (append_assoc front (x ∷ []) q.0))
 front_and front x (Err n) = refl
 
-module _ {A : Type 0} (a : Rule A) (la : Lawful a) (some : a.empty ≡ false) (on : apart a.goes a.starts ≡ true) where
+module _ {A : Type 0} (a : Rule A) (la : Lawful a) (some : a.nullable ≡ false) (on : apart a.flast a.firsts ≡ true) where
   abbrev then_more : A × List Lexeme → Answer (List A)
-  then_more p = item_and {S = Unit {0}} a.starts a.goes (λ s. a) (λ s x. s) tt p
+  then_more p = item_and {S = Unit {0}} a.firsts a.flast (λ s. a) (λ s x. s) tt p
 
   -- where no item begins, the list is read
-  pub front_ends : (front : List A) (ts : List Lexeme) (whole : Answer (List A)) → with_front front ((each a).read ts) ≡ whole → begins a.starts ts ≡ false
+  pub front_ends : (front : List A) (ts : List Lexeme) (whole : Answer (List A)) → with_front front ((each a).read ts) ≡ whole → begins a.firsts ts ≡ false
       → whole ≡ Ok (front, ts)
   front_ends front ts whole inv e =
       sym inv
-      ∙ ap (with_front front) (chain_ends {S = Unit {0}} a.starts a.goes (λ s. a) (λ s x. s) (λ s. la) (λ s. some) tt ts e)
+      ∙ ap (with_front front) (chain_ends {S = Unit {0}} a.firsts a.flast (λ s. a) (λ s x. s) (λ s. la) (λ s. some) tt ts e)
       ∙ ap (λ l. Ok (l, ts)) (append-nil front)
 
-  front_goes : (ts : List Lexeme) → begins a.starts ts ≡ true → (each a).read ts ≡ (a.read ts >>= (λ (p : A × List Lexeme). then_more p))
-  front_goes ts e = chain_goes {S = Unit {0}} a.starts a.goes (λ s. a) (λ s x. s) (λ s. la) (λ s. some) tt ts e
+  front_goes : (ts : List Lexeme) → begins a.firsts ts ≡ true → (each a).read ts ≡ (a.read ts >>= (λ (p : A × List Lexeme). then_more p))
+  front_goes ts e = chain_goes {S = Unit {0}} a.firsts a.flast (λ s. a) (λ s x. s) (λ s. la) (λ s. some) tt ts e
 
   -- an item's bad token is the list's
-  pub front_bad : (front : List A) (ts : List Lexeme) (whole : Answer (List A)) (n : ℕ) → with_front front ((each a).read ts) ≡ whole → begins a.starts ts ≡ true
+  pub front_bad : (front : List A) (ts : List Lexeme) (whole : Answer (List A)) (n : ℕ) → with_front front ((each a).read ts) ≡ whole → begins a.firsts ts ≡ true
       → a.read ts ≡ Err n → whole ≡ Err n
   front_bad front ts whole n inv e r =
       sym inv ∙ ap (with_front front) (front_goes ts e ∙ ap (λ o. o >>= (λ (p : A × List Lexeme). then_more p)) r)
@@ -93,8 +93,8 @@ module _ {A : Type 0} (a : Rule A) (la : Lawful a) (some : a.empty ≡ false) (o
       ∙ ap (with_front front) (sym (front_goes ts begun ∙ ap (λ o. o >>= (λ (p : A × List Lexeme). then_more p)) r))
       ∙ inv
     where
-      begun : begins a.starts ts ≡ true
-      begun = read_starts {S = Unit {0}} a.starts a.goes (λ s. a) (λ s x. s) (λ s. la) (λ s. some) (λ s c h. h) (λ s c h. h) on tt ts (x, after) r
+      begun : begins a.firsts ts ≡ true
+      begun = read_starts {S = Unit {0}} a.firsts a.flast (λ s. a) (λ s x. s) (λ s. la) (λ s. some) (λ s c h. h) (λ s c h. h) on tt ts (x, after) r
 
 pub not_first : (class : Class) (ts : List Lexeme) → false ≡ (number (first ts) == number class) → begins (class ∷ []) ts ≡ false
 not_first class ts e = go (number Class.End) (number (first ts)) (number class) e
@@ -107,7 +107,7 @@ pub mapped : {A X : Type 0} (view : X → A) (front more : List X) (x : X) → m
 mapped view front more x e = ap (map view) e ∙ map-append view front (x ∷ [])
 
 -- items that each begin with one word
-module _ {A : Type 0} (class : Class) (a : Rule A) (la : Lawful (class ▷ a)) (on : apart (class ▷ a).goes (class ∷ []) ≡ true) where
+module _ {A : Type 0} (class : Class) (a : Rule A) (la : Lawful (class ▷ a)) (on : apart (class ▷ a).flast (class ∷ []) ≡ true) where
   pub led_ends : (front : List A) (ts : List Lexeme) (whole : Answer (List A)) → with_front front ((each (class ▷ a)).read ts) ≡ whole
       → false ≡ (number (first ts) == number class) → whole ≡ Ok (front, ts)
   led_ends front ts whole inv e = front_ends (class ▷ a) la refl on front ts whole inv (not_first class ts e)
@@ -123,29 +123,29 @@ module _ {A : Type 0} (class : Class) (a : Rule A) (la : Lawful (class ▷ a)) (
       front_push (class ▷ a) la refl on front more x ts after whole is (before_read class a ts (Ok (x, after)) f r) inv
 
 -- items by states: s is the state before ts
-module _ {S A : Type 0} (starts goes : List Class) (rule : S → Rule A) (next : S → A → S) (laws : (s : S) → Lawful (rule s))
-    (some : (s : S) → (rule s).empty ≡ false) where
-  pub state_ends : (s : S) (front : List A) (ts : List Lexeme) (whole : Answer (List A)) → with_front front ((items starts goes rule next s).read ts) ≡ whole
-      → begins starts ts ≡ false → whole ≡ Ok (front, ts)
+module _ {S A : Type 0} (firsts flast : List Class) (rule : S → Rule A) (next : S → A → S) (laws : (s : S) → Lawful (rule s))
+    (some : (s : S) → (rule s).nullable ≡ false) where
+  pub state_ends : (s : S) (front : List A) (ts : List Lexeme) (whole : Answer (List A)) → with_front front ((items firsts flast rule next s).read ts) ≡ whole
+      → begins firsts ts ≡ false → whole ≡ Ok (front, ts)
   state_ends s front ts whole inv e =
-      sym inv ∙ ap (with_front front) (chain_ends starts goes rule next laws some s ts e) ∙ ap (λ l. Ok (l, ts)) (append-nil front)
+      sym inv ∙ ap (with_front front) (chain_ends firsts flast rule next laws some s ts e) ∙ ap (λ l. Ok (l, ts)) (append-nil front)
 
-  pub state_bad : (s : S) (front : List A) (ts : List Lexeme) (whole : Answer (List A)) (n : ℕ) → with_front front ((items starts goes rule next s).read ts) ≡ whole
-      → begins starts ts ≡ true → (rule s).read ts ≡ Err n → whole ≡ Err n
+  pub state_bad : (s : S) (front : List A) (ts : List Lexeme) (whole : Answer (List A)) (n : ℕ) → with_front front ((items firsts flast rule next s).read ts) ≡ whole
+      → begins firsts ts ≡ true → (rule s).read ts ≡ Err n → whole ≡ Err n
   state_bad s front ts whole n inv e r =
       sym inv
-      ∙ ap (with_front front) (chain_goes starts goes rule next laws some s ts e ∙ ap (λ o. o >>= (λ (p : A × List Lexeme). item_and starts goes rule next s p)) r)
+      ∙ ap (with_front front) (chain_goes firsts flast rule next laws some s ts e ∙ ap (λ o. o >>= (λ (p : A × List Lexeme). item_and firsts flast rule next s p)) r)
 
-  pub state_push : (s : S) (front more : List A) (x : A) (ts after : List Lexeme) (whole : Answer (List A)) → more ≡ front ++ x ∷ [] → begins starts ts ≡ true
-      → (rule s).read ts ≡ Ok (x, after) → with_front front ((items starts goes rule next s).read ts) ≡ whole
-      → with_front more ((items starts goes rule next (next s x)).read after) ≡ whole
+  pub state_push : (s : S) (front more : List A) (x : A) (ts after : List Lexeme) (whole : Answer (List A)) → more ≡ front ++ x ∷ [] → begins firsts ts ≡ true
+      → (rule s).read ts ≡ Ok (x, after) → with_front front ((items firsts flast rule next s).read ts) ≡ whole
+      → with_front more ((items firsts flast rule next (next s x)).read after) ≡ whole
   state_push s front more x ts after whole is e r inv =
-      ap (λ l. with_front l ((items starts goes rule next (next s x)).read after)) is
-      ∙ sym (front_and front x ((items starts goes rule next (next s x)).read after))
-      ∙ ap (with_front front) (sym (chain_goes starts goes rule next laws some s ts e ∙ ap (λ o. o >>= (λ (p : A × List Lexeme). item_and starts goes rule next s p)) r))
+      ap (λ l. with_front l ((items firsts flast rule next (next s x)).read after)) is
+      ∙ sym (front_and front x ((items firsts flast rule next (next s x)).read after))
+      ∙ ap (with_front front) (sym (chain_goes firsts flast rule next laws some s ts e ∙ ap (λ o. o >>= (λ (p : A × List Lexeme). item_and firsts flast rule next s p)) r))
       ∙ inv
 
--- the first of items parted by commas, before the others
+-- the first of items separated by commas, before the others
 pub commas_begin : {A : Type 0} (a : Rule A) (x : A) (front : List A) (ts after : List Lexeme) → front ≡ x ∷ [] → a.read ts ≡ Ok (x, after)
     → with_front front ((each (Classes.Comma ▷ a)).read after) ≡ (commas_some a).read ts
 commas_begin {A} a x front ts after is r =

@@ -74,14 +74,14 @@ module _ {A : Type 0} (r : Rule A) (lr : Lawful r) where
   read_all_reads ts = reads ts (r.read ts) (lr.splits ts)
 
   -- what is read of a rule that is not empty leaves fewer tokens
-  pub read_shorter : r.empty ≡ false → (ts : List Lexeme) (p : A × List Lexeme) → r.read ts ≡ Ok p → length p.1 < length ts
+  pub read_shorter : r.nullable ≡ false → (ts : List Lexeme) (p : A × List Lexeme) → r.read ts ≡ Ok p → length p.1 < length ts
   read_shorter some ts p e = go p (subst (Splits r ts) e (lr.splits ts))
     where
       clash : (e : Bool) → e ≡ true → e ≡ false → ⊥
       clash e p q = cc
 
       len : (us rest : List Lexeme) (x : A) → r.text us x → ts ≡ us ++ rest → length rest < length ts
-      len [] rest x t is = absurd (clash r.empty (lr.may_be_empty x t) some)
+      len [] rest x t is = absurd (clash r.nullable (lr.may_be_empty x t) some)
       len (u ∷ us) rest x t is = omega (arith, ap length is, length-append us rest)
 
       go : (p : A × List Lexeme) → Splits r ts (Ok p) → length p.1 < length ts

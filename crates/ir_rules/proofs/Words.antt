@@ -16,7 +16,7 @@ word_law c e h = word_lawful c (example c) (example_is c e) h
 pub before_law : {A : Type 0} (c : Class) (a : Rule A) → same class.End c ≡ false → has (c ∷ []) c ≡ true → Lawful a → Lawful (c ▷ a)
 before_law c a e h la = before_lawful c (example c) (example_is c e) h a la
 
-pub after_law : {A : Type 0} (a : Rule A) (c : Class) → same class.End c ≡ false → has (c ∷ []) c ≡ true → Lawful a → apart a.goes (c ∷ []) ≡ true → Lawful (a ◁ c)
+pub after_law : {A : Type 0} (a : Rule A) (c : Class) → same class.End c ≡ false → has (c ∷ []) c ≡ true → Lawful a → apart a.flast (c ∷ []) ≡ true → Lawful (a ◁ c)
 after_law a c e h la on = after_lawful a la c (example c) (example_is c e) h on
 
 pub means_law : {A : Type 0} (c : Class) (x : A) → same class.End c ≡ false → has (c ∷ []) c ≡ true → Lawful (means c x)

@@ -67,7 +67,7 @@ enclosed b = record {
   text = λ ts x. (opening : Lexeme) × (inside : Parts) × (closing : Lexeme) × (ts ≡ opening ∷ (tokens_of inside ++ closing ∷ [])) × AreBalanced inside
       × (class_of opening ≡ opener b) × (role_of (class_of closing) ≡ Closes b);
   read = λ ts. (word (opener b)).read ts >>= (λ (p : Unit {0} × List Lexeme). skip_to (b ∷ []) p.1);
-  starts = opener b ∷ [];
-  goes = [];
-  empty = false;
+  firsts = opener b ∷ [];
+  flast = [];
+  nullable = false;
 }

@@ -36,7 +36,7 @@ abbrev pub lined : {A : Type 0} → Rule A → Rule (ℕ × A)
 lined {A} a = record {
   text = λ ts z. (head_line ts ≡ z.0) × a.text ts z.1;
   read = λ ts. a.read ts >>= with_line (head_line ts);
-  starts = a.starts;
-  goes = a.goes;
-  empty = a.empty;
+  firsts = a.firsts;
+  flast = a.flast;
+  nullable = a.nullable;
 }

@@ -44,12 +44,13 @@ when false cs = []
 pub record Rule (A : Type 0) : Type 1 where
   pub text : List Lexeme → A → Type 0
   pub read : List Lexeme → Answer A
-  -- classes that may come first: at least these
-  pub starts : List Class
-  -- classes that may go on after a whole text: at least these
-  pub goes : List Class
-  -- whether the empty text may be one
-  pub empty : Bool
+  -- The sets that decide by one token ahead (Krishnaswami and Yallop, "A Typed, Algebraic Approach to Parsing"):
+  -- the classes that a text may begin with, at least these,
+  pub firsts : List Class
+  -- those that may go on behind a whole text, at least these,
+  pub flast : List Class
+  -- and whether the empty text may be one
+  pub nullable : Bool
 
 abbrev pub one_read : {A : Type 0} → Option A → List Lexeme → ℕ → Answer A
 one_read (Some x) ts left = Ok (x, ts)
@@ -63,9 +64,9 @@ abbrev pub token : {A : Type 0} → List Class → (Class → List ℕ → Optio
 token {A} cs f = record {
   text = λ ts x. (t : Lexeme) × (ts ≡ t ∷ []) × (f (class_of t) t.text ≡ Some x);
   read = one_of f;
-  starts = cs;
-  goes = [];
-  empty = false;
+  firsts = cs;
+  flast = [];
+  nullable = false;
 }
 
 abbrev pub is_word : Class → Class → List ℕ → Option (Unit {0})
@@ -80,9 +81,9 @@ abbrev pub nothing : {A : Type 0} → A → Rule A
 nothing {A} x = record {
   text = λ ts y. (ts ≡ []) × (x ≡ y);
   read = λ ts. Ok (x, ts);
-  starts = [];
-  goes = [];
-  empty = true;
+  firsts = [];
+  flast = [];
+  nullable = true;
 }
 
 -- the same texts, with other trees
@@ -90,9 +91,9 @@ abbrev pub made : {A B : Type 0} → (A → B) → Rule A → Rule B
 made {A} {B} f a = record {
   text = λ ts y. (x : A) × a.text ts x × (f x ≡ y);
   read = λ ts. a.read ts >>= (λ (p : A × List Lexeme). Ok (f p.0, p.1));
-  starts = a.starts;
-  goes = a.goes;
-  empty = a.empty;
+  firsts = a.firsts;
+  flast = a.flast;
+  nullable = a.nullable;
 }
 
 -- one after the other
@@ -100,24 +101,24 @@ abbrev pub seq : {A B : Type 0} → Rule A → Rule B → Rule (A × B)
 seq {A} {B} a b = record {
   text = λ ts z. (us : List Lexeme) × (vs : List Lexeme) × (ts ≡ us ++ vs) × a.text us z.0 × b.text vs z.1;
   read = λ ts. a.read ts >>= (λ (p : A × List Lexeme). b.read p.1 >>= (λ (q : B × List Lexeme). Ok ((p.0, q.0), q.1)));
-  starts = a.starts ++ when a.empty b.starts;
-  goes = b.goes ++ when b.empty a.goes;
-  empty = a.empty && b.empty;
+  firsts = a.firsts ++ when a.nullable b.firsts;
+  flast = b.flast ++ when b.nullable a.flast;
+  nullable = a.nullable && b.nullable;
 }
 
 -- one or the other, by the first token
 abbrev pub either : {A : Type 0} → Rule A → Rule A → Rule A
 either {A} a b = record {
   text = λ ts x. a.text ts x ⊎ b.text ts x;
-  read = λ ts. if begins a.starts ts then a.read ts else b.read ts;
-  starts = a.starts ++ b.starts;
-  goes = a.goes ++ (b.goes ++ when b.empty a.starts);
-  empty = b.empty;
+  read = λ ts. if begins a.firsts ts then a.read ts else b.read ts;
+  firsts = a.firsts ++ b.firsts;
+  flast = a.flast ++ (b.flast ++ when b.nullable a.firsts);
+  nullable = b.nullable;
 }
 
 -- the same rule, its sets stated
 abbrev pub within : {A : Type 0} → List Class → List Class → Bool → Rule A → Rule A
-within {A} starts goes empty r = record { text = r.text; read = r.read; starts = starts; goes = goes; empty = empty }
+within {A} firsts flast nullable r = record { text = r.text; read = r.read; firsts = firsts; flast = flast; nullable = nullable }
 
 abbrev pub chain_text : {S A : Type 0} → (S → Rule A) → (S → A → S) → S → List Lexeme → List A → Type 0
 chain_text rule next s ts [] = ts ≡ []
@@ -129,25 +130,25 @@ with_item x q = Ok (x ∷ q.0, q.1)
 
 -- items as long as one begins; the first argument bounds their number
 abbrev pub chain_read : {S A : Type 0} → List Class → (S → Rule A) → (S → A → S) → ℕ → S → List Lexeme → Answer (List A)
-chain_read starts rule next zero s ts = Ok ([], ts)
-chain_read {S} {A} starts rule next (suc n) s ts =
-    if begins starts ts
-    then ((rule s).read ts >>= (λ (p : A × List Lexeme). chain_read starts rule next n (next s p.0) p.1 >>= with_item p.0))
+chain_read firsts rule next zero s ts = Ok ([], ts)
+chain_read {S} {A} firsts rule next (suc n) s ts =
+    if begins firsts ts
+    then ((rule s).read ts >>= (λ (p : A × List Lexeme). chain_read firsts rule next n (next s p.0) p.1 >>= with_item p.0))
     else Ok ([], ts)
 
 -- Items, each by the rule of a state, from one state on. The rule of each state has its sets within
 -- these.
 abbrev pub chain : {S A : Type 0} → List Class → List Class → (S → Rule A) → (S → A → S) → S → Rule (List A)
-chain {S} {A} starts goes rule next s = record {
+chain {S} {A} firsts flast rule next s = record {
   text = chain_text rule next s;
-  read = λ ts. chain_read starts rule next (length ts) s ts;
-  starts = starts;
-  goes = goes ++ starts;
-  empty = true;
+  read = λ ts. chain_read firsts rule next (length ts) s ts;
+  firsts = firsts;
+  flast = flast ++ firsts;
+  nullable = true;
 }
 
 abbrev pub each : {A : Type 0} → Rule A → Rule (List A)
-each {A} a = chain {S = Unit {0}} a.starts a.goes (λ s. a) (λ s x. s) tt
+each {A} a = chain {S = Unit {0}} a.firsts a.flast (λ s. a) (λ s x. s) tt
 
 -- a token of a class before
 abbrev pub ◌▷◌ : {A : Type 0} → Class → Rule A → Rule A
@@ -162,11 +163,11 @@ infixl 31 ◌◁◌
 abbrev pub option : {A : Type 0} → Rule A → Rule (Option A)
 option {A} a = either (made (λ (x : A). Some x) a) (nothing None)
 
--- one or more, parted by commas
+-- one or more, separated by commas
 abbrev pub commas_some : {A : Type 0} → Rule A → Rule (List A)
 commas_some {A} a = made (λ (z : A × List A). z.0 ∷ z.1) (seq a (each (Class.Comma ▷ a)))
 
--- none or more, parted by commas
+-- none or more, separated by commas
 abbrev pub commas : {A : Type 0} → Rule A → Rule (List A)
 commas a = either (commas_some a) (nothing [])
 

@@ -25,26 +25,26 @@ further_law true =
     (made_lawful (λ (e : PhiEntry). Some e) _ phi_entries_law) refl refl)) refl refl refl
 further_law false = within_lawful _ _ _ _ (before_law class.Comma _ refl refl (made_lawful (λ (u : Unit {0}). None) _ attachment_law)) refl refl refl
 
-pub further_empty : (before : Bool) → (further before).empty ≡ false
+pub further_empty : (before : Bool) → (further before).nullable ≡ false
 unfolding further
 further_empty true = refl
 further_empty false = refl
 
-further_starts : (before : Bool) → all_in (further before).starts (class.Comma ∷ []) ≡ true
+further_firsts : (before : Bool) → all_in (further before).firsts (class.Comma ∷ []) ≡ true
 unfolding further
-further_starts true = refl
-further_starts false = refl
+further_firsts true = refl
+further_firsts false = refl
 
-further_goes : (before : Bool) → all_in (further before).goes [] ≡ true
+further_flast : (before : Bool) → all_in (further before).flast [] ≡ true
 unfolding further
-further_goes true = refl
-further_goes false = refl
+further_flast true = refl
+further_flast false = refl
 
 pub further_entries_law : Lawful further_entries
 unfolding further_list
 further_entries_law =
     within_lawful _ _ _ _ (made_lawful (λ (found : List (Option PhiEntry)). filter_map (λ e. e) found) _
-    (chain_lawful (class.Comma ∷ []) [] further is_entry further_law further_empty further_starts further_goes refl true)) refl refl refl
+    (chain_lawful (class.Comma ∷ []) [] further is_entry further_law further_empty further_firsts further_flast refl true)) refl refl refl
 
 pub phis_law : Lawful phis
 unfolding phi_forms

@@ -60,11 +60,11 @@ abbrev pub structs : Rule TextTree → Rule TextTree
 structs t = either (plain_structs t) (packed_structs t)
 
 -- the tokens that a type begins with
-abbrev pub type_starts : List Class
-type_starts = OpenSquare ∷ OpenCurly ∷ OpenPacked ∷ IntType ∷ Ptr ∷ Local ∷ []
+abbrev pub type_firsts : List Class
+type_firsts = OpenSquare ∷ OpenCurly ∷ OpenPacked ∷ IntType ∷ Ptr ∷ Local ∷ []
 
 abbrev pub of_types : Rule TextTree → Rule TextTree
-of_types r = within type_starts [] false r
+of_types r = within type_firsts [] false r
 
 -- iN | "ptr" | [ INT "x" type ] | struct | LOCAL
 unfoldable pub types_in : ℕ → Rule TextTree

@@ -3,7 +3,7 @@ ghost use Rattle.std.specs.Prelude.{◌≡◌, false, true};
 ghost use Rattle.ir_types.specs.Types.{array_lengths, arrays, as_length, integer_types, literals, local_names, local_uses, packed_structs, plain_structs, result_types, simple_types, structs, types};
 ghost use Rattle.ir_rules.specs.Reading.{Gives, GivesExactly};
 ghost use Rattle.ir_rules.specs.Rules.{commas, either, has};
-ghost use Rattle.ir_types.specs.Types.{type_starts};
+ghost use Rattle.ir_types.specs.Types.{type_firsts};
 
 use crate::digits::small_number;
 use crate::literals::literal_of;
@@ -115,7 +115,7 @@ fn read_simple_type<'t>(alloc: Global, rest: Cursor<'t>) -> Result<(TyText, Curs
 
 /// Whether a token may begin a type.
 pub fn begins_type(class: Class) -> bool
-    ensures { result ≡ has type_starts class }
+    ensures { result ≡ has type_firsts class }
 {
     matches!(
         class,
@@ -141,7 +141,7 @@ fn read_array<'t>(alloc: Global, rest: Cursor<'t>, depth: u8) -> Result<(TyText,
     Ok((TyText::array(alloc, len, elem)?, rest))
 }
 
-/// Reads types of at most so many brackets, parted by commas, or none.
+/// Reads types of at most so many brackets, separated by commas, or none.
 #[cycle(types)]
 fn read_types<'t>(
     alloc: Global,

@@ -16,21 +16,21 @@ use std::alloc::Global;
 
 /// Whether a token of this class begins an operation that may say how it wraps.
 pub(crate) fn begins_wrapping(class: Class) -> bool
-    ensures { result ≡ has wrapping.starts class }
+    ensures { result ≡ has wrapping.firsts class }
 {
     matches!(class, Class::Add | Class::Sub | Class::Mul | Class::Shl)
 }
 
 /// Whether a token of this class begins an operation that may say that it is exact.
 pub(crate) fn begins_exact(class: Class) -> bool
-    ensures { result ≡ has exact.starts class }
+    ensures { result ≡ has exact.firsts class }
 {
     matches!(class, Class::Udiv | Class::Sdiv | Class::Lshr | Class::Ashr)
 }
 
 /// Whether a token of this class begins a remainder or an operation bit by bit.
 pub(crate) fn begins_bitwise(class: Class) -> bool
-    ensures { result ≡ has bitwise.starts class }
+    ensures { result ≡ has bitwise.firsts class }
 {
     matches!(
         class,

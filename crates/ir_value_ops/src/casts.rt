@@ -15,7 +15,7 @@ use std::alloc::Global;
 
 /// Whether a token of this class begins a conversion.
 pub(crate) fn begins_cast(class: Class) -> bool
-    ensures { result ≡ has casts.starts class }
+    ensures { result ≡ has casts.firsts class }
 {
     matches!(
         class,

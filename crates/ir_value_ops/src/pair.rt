@@ -31,7 +31,7 @@ pub fn read_next_operand<'t>(
     read_typed_operand(alloc, rest)
 }
 
-/// Reads a type and two operands of it, parted by a comma.
+/// Reads a type and two operands of it, separated by a comma.
 #[tactic(auto, unfolding(crate::specs::ValueOps::pair_forms))]
 pub(crate) fn read_pair<'t>(
     alloc: Global,

@@ -16,7 +16,7 @@ use std::alloc::Global;
 
 /// Whether a token of this class begins an operation on values other than arithmetic.
 fn begins_other_value_op(class: Class) -> bool
-    ensures { result ≡ has other_value_ops.starts class }
+    ensures { result ≡ has other_value_ops.firsts class }
 {
     match class {
         Class::Icmp | Class::Select | Class::Freeze => true,
@@ -26,7 +26,7 @@ fn begins_other_value_op(class: Class) -> bool
 
 /// Whether a token of this class begins an operation on values.
 pub fn begins_value_op(class: Class) -> bool
-    ensures { result ≡ has value_ops.starts class }
+    ensures { result ≡ has value_ops.firsts class }
 {
     begins_wrapping(class)
         | begins_exact(class)

@@ -5,7 +5,7 @@ use Rattle.ir_value_ops.proofs.value_choice.begins_value_op.Goals as goal
 
 pub returns : goal.returns
 returns c =
-    in_either (wrapping.starts ++ exact.starts ++ bitwise.starts) other_value_ops.starts c.args.class _ _
-    (in_either (wrapping.starts ++ exact.starts) bitwise.starts c.args.class _ _
-    (in_either wrapping.starts exact.starts c.args.class _ _ c.begins_wrapping.ensures c.begins_exact.ensures) c.begins_bitwise.ensures)
+    in_either (wrapping.firsts ++ exact.firsts ++ bitwise.firsts) other_value_ops.firsts c.args.class _ _
+    (in_either (wrapping.firsts ++ exact.firsts) bitwise.firsts c.args.class _ _
+    (in_either wrapping.firsts exact.firsts c.args.class _ _ c.begins_wrapping.ensures c.begins_exact.ensures) c.begins_bitwise.ensures)
     c.begins_other_value_op.ensures
