@@ -40,15 +40,15 @@ module _ {A B : Type 0} (a : Rule A) where
 -- the front of a definition begins with its word
 pub opening_begins : (ts : List Lexeme) (p : Front × List Lexeme) → openings.read ts ≡ Ok p → begins (class.Define ∷ []) ts ≡ true
 opening_begins ts p e =
-    read_starts {S = Unit {0}} openings.starts openings.goes (λ s. openings) (λ s x. s) (λ s. openings_law) (λ s. refl) (λ s c h. h) (λ s c h. h) refl tt ts p e
+    read_starts {S = Unit {0}} openings.firsts openings.flast (λ s. openings) (λ s x. s) (λ s. openings_law) (λ s. refl) (λ s c h. h) (λ s c h. h) refl tt ts p e
 
 -- and that word begins no other item
 pub definition_read : (ts : List Lexeme) → begins (class.Define ∷ []) ts ≡ true → entities.read ts ≡ definitions.read ts
 unfolding entity_forms
 definition_read ts b =
-    ap (λ t. if t then nothing_kept.read ts else kept_entities.read ts) (other nothing_kept.starts refl)
-    ∙ ap (λ t. if t then type_defs.read ts else (if begins declarations.starts ts then declarations.read ts else (if begins definitions.starts ts then definitions.read ts else global_entities.read ts))) (other type_defs.starts refl)
-    ∙ ap (λ t. if t then declarations.read ts else (if begins definitions.starts ts then definitions.read ts else global_entities.read ts)) (other declarations.starts refl)
+    ap (λ t. if t then nothing_kept.read ts else kept_entities.read ts) (other nothing_kept.firsts refl)
+    ∙ ap (λ t. if t then type_defs.read ts else (if begins declarations.firsts ts then declarations.read ts else (if begins definitions.firsts ts then definitions.read ts else global_entities.read ts))) (other type_defs.firsts refl)
+    ∙ ap (λ t. if t then declarations.read ts else (if begins definitions.firsts ts then definitions.read ts else global_entities.read ts)) (other declarations.firsts refl)
     ∙ ap (λ t. if t then definitions.read ts else global_entities.read ts) b
   where
     other : (cs : List Class) → apart (class.Define ∷ []) cs ≡ true → begins cs ts ≡ false

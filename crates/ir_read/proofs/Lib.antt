@@ -3,9 +3,9 @@ pub mod BlockParts
 pub mod Ends
 pub mod EntityLaws
 pub mod Kept
-pub mod Naming
 pub mod OneAnswer
 pub mod Placing
 pub mod Settled
+pub mod SomeAnswer
 pub mod Unended
 pub mod Walks

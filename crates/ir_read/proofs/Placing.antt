@@ -16,7 +16,7 @@ use Rattle.ir_rules.proofs.Sets.{within_is}
 use Rattle.ir_rules.proofs.Whole.{read_all_reads}
 use Rattle.ir_body.specs.Blocks.{blocks}
 use Rattle.ir_body.proofs.BlockLaws.{blocks_law}
-use Rattle.ir_read.specs.Entities.{entities, entity_starts, modules}
+use Rattle.ir_read.specs.Entities.{entities, entity_firsts, modules}
 use Rattle.ir_read.specs.FirstBlocks.{IsInFirstBlock, TellsFirstBlock, is_bad, stops_behind, stops_in_block}
 use Rattle.ir_functions.specs.Functions.{Front, openings}
 use Rattle.ir_entities.specs.declared.entity.Entity.{Entity}
@@ -90,8 +90,8 @@ module _ (all rest : List Lexeme) (n : ℕ) (walk : after_items entities n all �
             is_alloca : first b.1 ≡ class.Alloca
             is_alloca = ap first (sym (ap (λ n. drop (length all - n) all) same ∙ from_place all before b.1 parts)) ∙ alloca
 
-            apart : begins (blocks true).goes b.1 ≡ false
-            apart = ap (has (blocks true).goes) is_alloca
+            apart : begins (blocks true).flast b.1 ≡ false
+            apart = ap (has (blocks true).flast) is_alloca
 
             clash : (x : Block) → ◌≡◌ {A = Answer Block} (Ok (x, b.1)) (Err (length b.1)) → ⊥
             clash x e = cc
@@ -107,7 +107,7 @@ module _ (all rest : List Lexeme) (n : ℕ) (walk : after_items entities n all �
             inside s.behind (subst (Splits openings rest) s.opened (openings_law.splits rest)) s.left
             (subst (Splits (blocks true) s.behind.1) s.bad ((blocks_law true).splits s.behind.1))
             (same s.left (module_bad all s.left (walk_bad entities entities_law refl refl n s.left all rest walk
-            (within_is (class.Define ∷ []) entity_starts (first rest) refl (opening_begins rest s.behind s.opened)) (entity_bad rest s.behind s.left s.opened s.bad))))
+            (within_is (class.Define ∷ []) entity_firsts (first rest) refl (opening_begins rest s.behind s.opened)) (entity_bad rest s.behind s.left s.opened s.bad))))
             alloca
 
   -- tokens that end in a first block lead there
@@ -142,16 +142,16 @@ module _ (all rest : List Lexeme) (n : ℕ) (walk : after_items entities n all �
         ∙ append_assoc i.items (i.front ++ i.block) (b ∷ bad)
         ∙ ap (λ l. i.items ++ l) (append_assoc i.front i.block (b ∷ bad))
 
-    starts : begins entity_starts (i.front ++ behind) ≡ true
-    starts = within_is (class.Define ∷ []) entity_starts (first (i.front ++ behind)) refl (opening_begins (i.front ++ behind) (i.opened.0, behind) opened)
+    firsts : begins entity_firsts (i.front ++ behind) ≡ true
+    firsts = within_is (class.Define ∷ []) entity_firsts (first (i.front ++ behind)) refl (opening_begins (i.front ++ behind) (i.opened.0, behind) opened)
 
     found : rest ≡ i.front ++ behind
     found =
-        walk_same entities entities_law refl refl n i.whole.0 bad_block.0 all i.items (i.front ++ behind) rest walk ends parted i.whole.1 starts
+        walk_same entities entities_law refl refl n i.whole.0 bad_block.0 all i.items (i.front ++ behind) rest walk ends parted i.whole.1 firsts
         (entity_bad (i.front ++ behind) (i.opened.0, behind) bad_block.0 opened bad_block.1)
 
-    begins_there : begins entity_starts rest ≡ true
-    begins_there = ap (begins entity_starts) found ∙ starts
+    begins_there : begins entity_firsts rest ≡ true
+    begins_there = ap (begins entity_firsts) found ∙ firsts
 
     stops_there : stops_in_block rest ≡ true
     stops_there = ap stops_in_block found ∙ ap stops_behind opened ∙ ap is_bad bad_block.1
@@ -185,10 +185,10 @@ module _ (all rest : List Lexeme) (n : ℕ) (walk : after_items entities n all �
         go r = r.1.bad is_below (subst (Begins modules) (sym more) w)
 
     module _ (alloca : first (drop (length all - left) all) ≡ class.Alloca) (i : IsInFirstBlock (take (length all - left) all)) where
-      pub stops : (begins entity_starts rest ≡ true) × (stops_in_block rest ≡ true)
+      pub stops : (begins entity_firsts rest ≡ true) × (stops_in_block rest ≡ true)
       stops = go (drop (length all - left) all) refl alloca
         where
-          go : (bad : List Lexeme) → drop (length all - left) all ≡ bad → first bad ≡ class.Alloca → (begins entity_starts rest ≡ true) × (stops_in_block rest ≡ true)
+          go : (bad : List Lexeme) → drop (length all - left) all ≡ bad → first bad ≡ class.Alloca → (begins entity_firsts rest ≡ true) × (stops_in_block rest ≡ true)
           go [] is f = absurd (cc)
           go (b ∷ bad) is f = (
             begins_there ends (take (length all - left) all) bad b parts (never bad b is) i,
@@ -199,12 +199,12 @@ module _ (all rest : List Lexeme) (n : ℕ) (walk : after_items entities n all �
               parts = sym (take-append-drop (length all - left) all) ∙ ap (λ l. take (length all - left) all ++ l) is
 
   -- where no item begins, it is none
-  pub placed_outside : begins entity_starts rest ≡ false → TellsFirstBlock all false
-  placed_outside e left read alloca i = both (begins entity_starts rest) (stops ends left read alloca i).0 e
+  pub placed_outside : begins entity_firsts rest ≡ false → TellsFirstBlock all false
+  placed_outside e left read alloca i = both (begins entity_firsts rest) (stops ends left read alloca i).0 e
     where
       ends : (p : Option Entity × List Lexeme) → entities.read rest ≡ Ok p → ⊥
-      ends p r = both (begins entity_starts rest)
-          (read_starts {S = Unit {0}} entities.starts entities.goes (λ s. entities) (λ s x. s) (λ s. entities_law) (λ s. refl) (λ s c h. h) (λ s c h. h) refl tt rest p r) e
+      ends p r = both (begins entity_firsts rest)
+          (read_starts {S = Unit {0}} entities.firsts entities.flast (λ s. entities) (λ s x. s) (λ s. entities_law) (λ s. refl) (λ s c h. h) (λ s c h. h) refl tt rest p r) e
 
   -- where an item stops, its first block tells
   pub placed : (left : ℕ) → entities.read rest ≡ Err left → (b : Bool) → b ≡ stops_in_block rest → TellsFirstBlock all b

@@ -5,12 +5,11 @@ use Rattle.std.specs.declared.result.Result.{Result}
 use Rattle.ir_lex.specs.Splitting.{tokens_of}
 use Rattle.ir_lex.specs.declared.kind.Token.{Token}
 use Rattle.ir_syntax.specs.declared.refusal.Refusal.{Refusal}
-use Rattle.ir_syntax.specs.declared.refusal.Refusal.TheVariants.{Lex, NoMemory}
 use Rattle.ir_words.specs.Lexemes.{Lexeme, lexemes}
 use Rattle.ir_rules.specs.Reading.{Reads, read_all}
-use Rattle.ir_rules.proofs.Whole.{accepts, read_all_reads}
+use Rattle.ir_rules.proofs.Whole.{read_all_reads}
 use Rattle.ir_read.specs.Entities.{modules}
-use Rattle.ir_read.specs.Refusals.{Finds, IsModule, IsRefusal, Settles}
+use Rattle.ir_read.specs.Refusals.{IsModule, IsRefusal, OrNoMemory, Settles}
 use Rattle.ir_entities.specs.declared.entity.Entity.{Entity}
 use Rattle.ir_read.proofs.EntityLaws.{modules_law}
 
@@ -20,18 +19,10 @@ same_tokens read a b e f = cc
 pub no_tokens : (read : Result (List Token) ℕ) (a : List Token) (line : ℕ) → read ≡ Ok a → read ≡ Err line → ⊥
 no_tokens read a line e f = absurd (cc)
 
-clash : (read : Result (List Entity) ℕ) (a : List Entity) (left : ℕ) → read ≡ Ok a → read ≡ Err left → ⊥
-clash read a left e f = absurd (cc)
-
 pub same_found : (read : Result (List Entity) ℕ) (a b : List Entity) → read ≡ Ok a → read ≡ Ok b → a ≡ b
 same_found read a b e f = cc
 
 module _ (bytes : List ℕ) (tokens : List Token) (is : tokens_of bytes ≡ Ok tokens) where
-  read_of : (found : List Entity) → IsModule bytes found → read_all modules (lexemes bytes tokens) ≡ Ok found
-  read_of found m =
-      subst (λ l. read_all modules (lexemes bytes l) ≡ Ok found) (same_tokens (tokens_of bytes) m.0 tokens m.1 is)
-      (accepts modules modules_law (lexemes bytes m.0) found m.2)
-
   reads : (read : Result (List Entity) ℕ) → read_all modules (lexemes bytes tokens) ≡ read → Reads modules (lexemes bytes tokens) read
   reads read e = subst (Reads modules (lexemes bytes tokens)) e (read_all_reads modules modules_law (lexemes bytes tokens))
 
@@ -39,13 +30,7 @@ module _ (bytes : List ℕ) (tokens : List Token) (is : tokens_of bytes ≡ Ok t
   ok_by (Ok found) s = (tokens, is, reads (Ok found) s)
   ok_by (Err e) s = tt
 
-  only_by : (result : Result (List Entity) Refusal) → Settles (lexemes bytes tokens) (read_all modules (lexemes bytes tokens)) result
-      → (found : List Entity) → IsModule bytes found → Finds found result
-  only_by (Ok es) s found m = same_found (read_all modules (lexemes bytes tokens)) es found s (read_of found m)
-  only_by (Err e) (inl n) found m = n
-  only_by (Err e) (inr w) found m = absurd (clash (read_all modules (lexemes bytes tokens)) found w.0 (read_of found m) w.1)
-
-  refused_by : (result : Result (List Entity) Refusal) → Settles (lexemes bytes tokens) (read_all modules (lexemes bytes tokens)) result → IfErr result (IsRefusal bytes)
+  refused_by : (result : Result (List Entity) Refusal) → Settles (lexemes bytes tokens) (read_all modules (lexemes bytes tokens)) result → IfErr result (OrNoMemory (IsRefusal bytes))
   refused_by (Ok es) s = tt
   refused_by (Err e) (inl n) = inl n
   refused_by (Err e) (inr w) = inr (inr (tokens, length (lexemes bytes tokens) - w.0, is, (reads (Err w.0) w.1).1, w.2))
@@ -58,13 +43,5 @@ module _ (bytes : List ℕ) (tokens : List Token) (ts : List Lexeme) (result : R
   pub settled_ok : tokens_of bytes ≡ Ok tokens → ts ≡ lexemes bytes tokens → Settles ts (read_all modules ts) result → IfOk result (IsModule bytes)
   settled_ok is same s = ok_by bytes tokens is result (at same s)
 
-  pub settled_only : tokens_of bytes ≡ Ok tokens → ts ≡ lexemes bytes tokens → Settles ts (read_all modules ts) result
-      → (found : List Entity) → IsModule bytes found → Finds found result
-  settled_only is same s found m = only_by bytes tokens is result (at same s) found m
-
-  pub settled_refused : tokens_of bytes ≡ Ok tokens → ts ≡ lexemes bytes tokens → Settles ts (read_all modules ts) result → IfErr result (IsRefusal bytes)
+  pub settled_refused : tokens_of bytes ≡ Ok tokens → ts ≡ lexemes bytes tokens → Settles ts (read_all modules ts) result → IfErr result (OrNoMemory (IsRefusal bytes))
   settled_refused is same s = refused_by bytes tokens is result (at same s)
-
--- where some place begins no token
-pub lex_only : (bytes : List ℕ) (line : ℕ) → tokens_of bytes ≡ Err line → (found : List Entity) → IsModule bytes found → Lex line ≡ NoMemory
-lex_only bytes line e found m = absurd (no_tokens (tokens_of bytes) m.0 line m.1 e)

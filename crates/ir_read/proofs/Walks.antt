@@ -30,13 +30,13 @@ module _ {A : Type 0} (a : Rule A) where
       go (Ok q) more w = more q.1 w
       go (Err m) more w = absurd (cc)
 
-  module _ (la : Lawful a) (some : a.empty ≡ false) (on : apart a.goes a.starts ≡ true) where
-    begun : (ts : List Lexeme) (p : A × List Lexeme) → a.read ts ≡ Ok p → begins a.starts ts ≡ true
-    begun ts p r = read_starts {S = Unit {0}} a.starts a.goes (λ s. a) (λ s x. s) (λ s. la) (λ s. some) (λ s c h. h) (λ s c h. h) on tt ts p r
+  module _ (la : Lawful a) (some : a.nullable ≡ false) (on : apart a.flast a.firsts ≡ true) where
+    begun : (ts : List Lexeme) (p : A × List Lexeme) → a.read ts ≡ Ok p → begins a.firsts ts ≡ true
+    begun ts p r = read_starts {S = Unit {0}} a.firsts a.flast (λ s. a) (λ s x. s) (λ s. la) (λ s. some) (λ s c h. h) (λ s c h. h) on tt ts p r
 
-    goes_on : (ts : List Lexeme) → begins a.starts ts ≡ true
-        → (each a).read ts ≡ (a.read ts >>= (λ (p : A × List Lexeme). item_and {S = Unit {0}} a.starts a.goes (λ s. a) (λ s x. s) tt p))
-    goes_on ts b = chain_goes {S = Unit {0}} a.starts a.goes (λ s. a) (λ s x. s) (λ s. la) (λ s. some) tt ts b
+    goes_on : (ts : List Lexeme) → begins a.firsts ts ≡ true
+        → (each a).read ts ≡ (a.read ts >>= (λ (p : A × List Lexeme). item_and {S = Unit {0}} a.firsts a.flast (λ s. a) (λ s x. s) tt p))
+    goes_on ts b = chain_goes {S = Unit {0}} a.firsts a.flast (λ s. a) (λ s x. s) (λ s. la) (λ s. some) tt ts b
 
     -- what was read is a text
     pub walk_text : (n : ℕ) (ts rest : List Lexeme) → after_items n ts ≡ Ok rest → Walked ts rest
@@ -55,9 +55,9 @@ module _ {A : Type 0} (a : Rule A) where
         go (Err m) more s w = absurd (cc)
 
     -- the bad token of the item behind is that of all
-    pub walk_bad : (n left : ℕ) (ts rest : List Lexeme) → after_items n ts ≡ Ok rest → begins a.starts rest ≡ true → a.read rest ≡ Err left → (each a).read ts ≡ Err left
+    pub walk_bad : (n left : ℕ) (ts rest : List Lexeme) → after_items n ts ≡ Ok rest → begins a.firsts rest ≡ true → a.read rest ≡ Err left → (each a).read ts ≡ Err left
     walk_bad zero left ts rest w b r =
-        ap (each a).read same ∙ goes_on rest b ∙ ap (λ o. o >>= (λ (p : A × List Lexeme). item_and {S = Unit {0}} a.starts a.goes (λ s. a) (λ s x. s) tt p)) r
+        ap (each a).read same ∙ goes_on rest b ∙ ap (λ o. o >>= (λ (p : A × List Lexeme). item_and {S = Unit {0}} a.firsts a.flast (λ s. a) (λ s x. s) tt p)) r
       where
         same : ts ≡ rest
         same = cc
@@ -67,22 +67,22 @@ module _ {A : Type 0} (a : Rule A) where
             → (o >>= (λ (p : A × List Lexeme). after_items n p.1)) ≡ Ok rest → (each a).read ts ≡ Err left
         go (Ok p) e more w =
             goes_on ts (begun ts p e)
-            ∙ ap (λ o. o >>= (λ (p : A × List Lexeme). item_and {S = Unit {0}} a.starts a.goes (λ s. a) (λ s x. s) tt p)) e
+            ∙ ap (λ o. o >>= (λ (p : A × List Lexeme). item_and {S = Unit {0}} a.firsts a.flast (λ s. a) (λ s x. s) tt p)) e
             ∙ ap (λ o. o >>= with_item p.0) (more p.1 w)
         go (Err m) e more w = absurd (cc)
 
     -- behind an item stands another one, or what is behind all of them
-    starts_on : (us more : List Lexeme) (xs : List A) → (each a).text us xs → begins a.starts more ≡ true → begins a.starts (us ++ more) ≡ true
+    starts_on : (us more : List Lexeme) (xs : List A) → (each a).text us xs → begins a.firsts more ≡ true → begins a.firsts (us ++ more) ≡ true
     starts_on [] more xs t b = b
     starts_on (u ∷ us) more xs t b = (each_lawful a la some on).first u us xs t
 
-    item_read : (us vs more : List Lexeme) (x : A) (xs : List A) → a.text us x → (each a).text vs xs → begins a.starts more ≡ true
+    item_read : (us vs more : List Lexeme) (x : A) (xs : List A) → a.text us x → (each a).text vs xs → begins a.firsts more ≡ true
         → a.read (us ++ (vs ++ more)) ≡ Ok (x, vs ++ more)
-    item_read us vs more x xs t w b = la.complete us (vs ++ more) x t (apart_back a.goes a.starts (first (vs ++ more)) on (starts_on vs more xs w b))
+    item_read us vs more x xs t w b = la.complete us (vs ++ more) x t (apart_back a.flast a.firsts (first (vs ++ more)) on (starts_on vs more xs w b))
 
     -- Items up to one that is not read are read in one way alone.
     pub walk_same : (n : ℕ) (xs : List A) (left : ℕ) (ts us more rest : List Lexeme) → after_items n ts ≡ Ok rest → ((p : A × List Lexeme) → a.read rest ≡ Ok p → ⊥)
-        → ts ≡ us ++ more → (each a).text us xs → begins a.starts more ≡ true → a.read more ≡ Err left → rest ≡ more
+        → ts ≡ us ++ more → (each a).text us xs → begins a.firsts more ≡ true → a.read more ≡ Err left → rest ≡ more
     walk_same zero [] left ts us more rest w ends is t b r = cc
     walk_same zero (x ∷ xs) left ts us more rest w ends is t b r =
         absurd (ends (x, t.1 ++ more) (ap a.read (same ∙ is ∙ ap (λ l. l ++ more) t.2 ∙ append_assoc t.0 t.1 more) ∙ item_read t.0 t.1 more x xs t.3 t.4 b))

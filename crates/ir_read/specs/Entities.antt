@@ -10,7 +10,7 @@ use Rattle.ir_rules.specs.Rules.{Rule, ◌▷◌, each, either, made, option, se
 use Rattle.ir_rules.specs.declared.bracket.Bracket.TheVariants.{Curly}
 use Rattle.ir_attributes.specs.Attributes.{round_brackets}
 use Rattle.ir_types.specs.Types.{local_uses, structs, types}
-use Rattle.ir_functions.specs.Functions.{declarations, definitions, suffix_goes}
+use Rattle.ir_functions.specs.Functions.{declarations, definitions, suffix_flast}
 use Rattle.ir_globals.specs.Variables.{global_entities}
 use Rattle.ir_entities.specs.declared.entity.Entity.{Entity}
 use Rattle.ir_entities.specs.declared.entity.Entity.TheVariants as entity
@@ -68,12 +68,12 @@ kept_entities = either type_defs (either declarations (either definitions global
 unfoldable pub entity_forms : Rule (Option Entity)
 entity_forms = either nothing_kept kept_entities
 
-abbrev pub entity_starts : List Class
-entity_starts = class.SourceFilename ∷ class.Target ∷ class.Attributes ∷ class.Meta ∷ class.Local ∷ class.Declare ∷ class.Define
+abbrev pub entity_firsts : List Class
+entity_firsts = class.SourceFilename ∷ class.Target ∷ class.Attributes ∷ class.Meta ∷ class.Local ∷ class.Declare ∷ class.Define
     ∷ class.Global ∷ class.MetadataIntrinsic ∷ class.DroppedIntrinsic ∷ class.Intrinsic ∷ []
 
 abbrev pub entities : Rule (Option Entity)
-entities = within entity_starts (class.Comma ∷ suffix_goes) false entity_forms
+entities = within entity_firsts (class.Comma ∷ suffix_flast) false entity_forms
 
 -- entity*, those that are kept
 unfoldable pub module_forms : Rule (List Entity)
@@ -81,4 +81,4 @@ module_forms = made (λ (found : List (Option Entity)). filter_map (λ e. e) fou
 
 -- a module
 abbrev pub modules : Rule (List Entity)
-modules = within entity_starts (class.Comma ∷ (suffix_goes ++ entity_starts)) true module_forms
+modules = within entity_firsts (class.Comma ∷ (suffix_flast ++ entity_firsts)) true module_forms

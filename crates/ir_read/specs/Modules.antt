@@ -24,7 +24,7 @@ Reads bytes m = (found : List Entity) × IsModule bytes found × IsNamed found m
 abbrev pub IsNameFault : List Entity → Refusal → Type 0
 IsNameFault found e = (line : ℕ) × (least (fault_lines (numbered_entities found)) ≡ Some line) × (e ≡ Name line)
 
--- the first reason why a text is refused: as tokens, as a text of the grammar, or for its names
+-- The first reason why a text is refused: as tokens, as a text of the grammar, or for its names.
 abbrev pub IsFirstRefusal : List ℕ → Refusal → Type 0
 IsFirstRefusal bytes e = IsRefusal bytes e ⊎ ((found : List Entity) × IsModule bytes found × IsNameFault found e)
 
@@ -33,7 +33,13 @@ abbrev pub Names : List Entity → Result Module Refusal → Type 0
 Names found (Ok m) = IsNamed found m
 Names found (Err e) = (e ≡ NoMemory) ⊎ IsNameFault found e
 
--- this module is answered, unless memory ran out
-abbrev pub IsOnly : Module → Result Module Refusal → Type 0
-IsOnly m (Ok read) = read ≡ m
-IsOnly m (Err e) = e ≡ NoMemory
+-- the module of a text, or its first refusal
+abbrev pub IsAnswer : List ℕ → Result Module Refusal → Type 0
+IsAnswer bytes (Ok m) = Reads bytes m
+IsAnswer bytes (Err e) = IsFirstRefusal bytes e
+
+-- a text has a module or a first refusal, and never both or two of them
+pub record HasOneAnswer (bytes : List ℕ) : Type 0 where
+  pub answer : Result Module Refusal
+  pub is : IsAnswer bytes answer
+  pub only : (other : Result Module Refusal) → IsAnswer bytes other → other ≡ answer

@@ -54,11 +54,6 @@ Settles ts read (Err e) = (e ≡ NoMemory) ⊎ ((left : ℕ) × (read ≡ Err le
 abbrev pub IsModule : List ℕ → List Entity → Type 0
 IsModule bytes found = (tokens : List Token) × (tokens_of bytes ≡ Ok tokens) × modules.text (lexemes bytes tokens) found
 
--- these items are found, unless memory ran out
-abbrev pub Finds : List Entity → Result (List Entity) Refusal → Type 0
-Finds wanted (Ok found) = found ≡ wanted
-Finds wanted (Err e) = e ≡ NoMemory
-
 -- a text of which some place begins no token, on this line
 abbrev pub IsLexRefusal : List ℕ → Refusal → Type 0
 IsLexRefusal bytes e = (line : ℕ) × (tokens_of bytes ≡ Err line) × (e ≡ Lex line)
@@ -68,6 +63,10 @@ abbrev pub IsTokenRefusal : List ℕ → Refusal → Type 0
 IsTokenRefusal bytes e =
     (tokens : List Token) × (at : ℕ) × (tokens_of bytes ≡ Ok tokens) × IsFirstBad modules (lexemes bytes tokens) at × IsRefusedAt (lexemes bytes tokens) at e
 
--- why a text is refused
+-- why a text is no module of the grammar
 abbrev pub IsRefusal : List ℕ → Refusal → Type 0
-IsRefusal bytes e = (e ≡ NoMemory) ⊎ (IsLexRefusal bytes e ⊎ IsTokenRefusal bytes e)
+IsRefusal bytes e = IsLexRefusal bytes e ⊎ IsTokenRefusal bytes e
+
+-- a refusal for this reason, or memory ran out
+abbrev pub OrNoMemory : (Refusal → Type 0) → Refusal → Type 0
+OrNoMemory Reason e = (e ≡ NoMemory) ⊎ Reason e

@@ -1,8 +1,7 @@
 //! A text as a module.
-ghost use Rattle.std.specs.Prelude.{◌≡◌, ◌≢◌, ◌≤◌, ℕ, IfErr, IfOk, List, length};
-ghost use Rattle.ir_read.specs.Modules.{IsFirstRefusal, IsOnly, Names, Reads};
-ghost use Rattle.ir_syntax.specs.declared.module.Module.{Module};
-ghost use Rattle.ir_syntax.specs.declared.refusal.Refusal.{Refusal};
+ghost use Rattle.std.specs.Prelude.{◌≤◌, ℕ, IfErr, IfOk, List, length};
+ghost use Rattle.ir_read.specs.Modules.{HasOneAnswer, IsFirstRefusal, Names, Reads};
+ghost use Rattle.ir_read.specs.Refusals.{OrNoMemory};
 ghost use Rattle.ir_syntax.specs.declared.refusal.Refusal.TheVariants.{NoMemory};
 
 use crate::reading::read_entities;
@@ -33,8 +32,7 @@ fn named_module(alloc: Global, found: Entities) -> Result<Module, Refusal>
 pub fn read_module(alloc: Global, bytes: &[u8]) -> Result<Module, Refusal>
     requires { length bytes.now ≤ 16777216 }
     ensures reads { IfOk result (Reads bytes.now) }
-    ensures refused { IfErr result (IsFirstRefusal bytes.now) }
-    ensures only { (m : Module) → Reads bytes.now m → IsOnly m result }
+    ensures refused { IfErr result (OrNoMemory (IsFirstRefusal bytes.now)) }
 {
     match read_entities(alloc, bytes) {
         Ok(found) => named_module(alloc, found),
@@ -42,9 +40,9 @@ pub fn read_module(alloc: Global, bytes: &[u8]) -> Result<Module, Refusal>
     }
 }
 
-/// A text is that of one module at most, and then it is not refused.
+/// A text has a module or a first refusal, and never both or two of them. That memory ran out is no refusal of a
+/// text.
 pub fn texts_have_one_answer()
-    ensures unique { (bytes : List ℕ) (m k : Module) → Reads bytes m → Reads bytes k → m ≡ k }
-    ensures excludes { (bytes : List ℕ) (m : Module) (e : Refusal) → Reads bytes m → IsFirstRefusal bytes e →
-        e ≢ NoMemory → ⊥ }
+    ensures one { (bytes : List ℕ) → HasOneAnswer bytes }
+    ensures not_memory { (bytes : List ℕ) → IsFirstRefusal bytes NoMemory → ⊥ }
 {}

@@ -1,12 +1,11 @@
 //! A text as the items of its module.
-ghost use Rattle.std.specs.Prelude.{◌≡◌, ◌≤◌, ◌-◌, IfOk, IfErr, List, Err, drop, length};
+ghost use Rattle.std.specs.Prelude.{◌≡◌, ◌≤◌, ◌-◌, IfOk, IfErr, Err, drop, length};
 ghost use Rattle.ir_words.specs.Classes.{head_line, head_text};
 ghost use Rattle.ir_words.specs.Lexemes.{lexemes};
 ghost use Rattle.ir_syntax.specs.declared.refusal.Refusal.TheVariants.{Unsupported};
 ghost use Rattle.ir_rules.specs.Reading.{Gives, read_all};
 ghost use Rattle.ir_read.specs.Entities.{modules};
-ghost use Rattle.ir_read.specs.Refusals.{Finds, IsModule, IsRefusal, IsRefusedAt, Settles, last_line, refused, refused_alloca};
-ghost use Rattle.ir_entities.specs.declared.entity.Entity.{Entity};
+ghost use Rattle.ir_read.specs.Refusals.{IsModule, IsRefusal, IsRefusedAt, OrNoMemory, Settles, last_line, refused, refused_alloca};
 
 use crate::first_block::is_in_first_block;
 use crate::top::read_items;
@@ -130,8 +129,7 @@ fn read_lexed(alloc: Global, rest: Cursor<'_>) -> Result<Entities, Refusal>
 pub fn read_entities(alloc: Global, bytes: &[u8]) -> Result<Entities, Refusal>
     requires { length bytes.now ≤ 16777216 }
     ensures ok { IfOk result (IsModule bytes.now) }
-    ensures only { (found : List Entity) → IsModule bytes.now found → Finds found result }
-    ensures refused { IfErr result (IsRefusal bytes.now) }
+    ensures refused { IfErr result (OrNoMemory (IsRefusal bytes.now)) }
 {
     let tokens = match tokens(alloc, bytes) {
         Ok(tokens) => tokens,

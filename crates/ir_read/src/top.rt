@@ -3,7 +3,7 @@ ghost use Rattle.std.specs.Prelude.{◌≡◌, Some, [], ◌∷◌, ◌++◌, fi
 ghost use Rattle.ir_rules.specs.declared.end.End.TheVariants.{NoMemory};
 ghost use Rattle.ir_rules.specs.Reading.{Gives};
 ghost use Rattle.ir_rules.specs.Rules.{has};
-ghost use Rattle.ir_read.specs.Entities.{entities, entity_starts, kept_entities, modules, nothing_kept, type_defs};
+ghost use Rattle.ir_read.specs.Entities.{entities, entity_firsts, kept_entities, modules, nothing_kept, type_defs};
 
 use crate::dropped::skip_dropped;
 use ir_entities::Entity;
@@ -60,7 +60,7 @@ fn read_dropped<'t>(alloc: Global, rest: Cursor<'t>) -> Result<(Option<Entity>, 
 
 /// Whether a token of a class begins an item of which nothing is kept.
 fn begins_dropped(class: Class) -> bool
-    ensures { result ≡ has nothing_kept.starts class }
+    ensures { result ≡ has nothing_kept.firsts class }
 {
     matches!(
         class,
@@ -88,7 +88,7 @@ pub(crate) fn read_entity<'t>(
 
 /// Whether a token of a class begins an item.
 pub(crate) fn begins_entity(class: Class) -> bool
-    ensures { result ≡ has entity_starts class }
+    ensures { result ≡ has entity_firsts class }
 {
     matches!(
         class,

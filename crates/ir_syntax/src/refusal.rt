@@ -31,15 +31,25 @@ pub enum Refusal {
         /// The line of the name.
         line: u32,
     },
-    /// Number 18: the text is not one that is built yet.
+    /// Number 18: the module has something that is not built yet.
     NotYet {
-        /// The first line up to which the text begins no module, or the last one.
+        /// The line of the first such item.
         line: u32,
     },
-    /// Number 14: a module that is to be run defines no function `main`.
+    /// Number 14: a module that is to be run defines no function `main` that other modules see.
     NoMain,
-    /// Number 15: `main` has another type than the one that a run can call.
+    /// Number 15: `main` has another type than `i32 ()` and `i32 (i32, ptr)`.
     BadMain,
+    /// Number 16: a module that is to be run uses a symbol that neither it nor the runtime defines.
+    Unresolved {
+        /// The name of the symbol.
+        name: Bytes,
+    },
+    /// Number 17: the linked image of a module that is to be run exceeds 67,108,864 bytes.
+    Image {
+        /// Its size in bytes, or 2^64 - 1 where that is greater.
+        bytes: u64,
+    },
     /// Memory ran out.
     NoMemory,
 }
