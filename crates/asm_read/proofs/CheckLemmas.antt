@@ -18,10 +18,10 @@ pub opened_more : (lines : List (Option Form)) (k : ℕ) (line : Option Form) (o
     → opened ≡ list_any opens (take k lines) → here ≡ opens line → (opened || here) ≡ list_any opens (take (k + 1) lines)
 opened_more lines k line opened here l e p q = joined opened here _ _ p q ∙ sym (any_more opens lines k line l e)
 
-pub seen_more : (q : List ℕ) (lines : List (Option Form)) (k : ℕ) (line : Option Form) (after before : Bool) → k < length lines → line ≡ get_or lines k line
-    → before ≡ list_any (defines q) (take k lines) → after ≡ (defines q line || before) → after ≡ list_any (defines q) (take (k + 1) lines)
-seen_more q lines k line after before l e p s =
-    s ∙ or_comm (defines q line) before ∙ joined before (defines q line) _ _ p refl ∙ sym (any_more (defines q) lines k line l e)
+-- p holds of the lines that were read or of the next one
+pub seen_more : (p : Option Form → Bool) (lines : List (Option Form)) (k : ℕ) (line : Option Form) (after before : Bool) → k < length lines → line ≡ get_or lines k line
+    → before ≡ list_any p (take k lines) → after ≡ (p line || before) → after ≡ list_any p (take (k + 1) lines)
+seen_more p lines k line after before l e h s = s ∙ or_comm (p line) before ∙ joined before (p line) _ _ h refl ∙ sym (any_more p lines k line l e)
 
 refuses_same : (line : Option Form) (o o' : Bool) (s s' d d' : List ℕ → Bool) → o ≡ o' → ((q : List ℕ) → s q ≡ s' q) → ((q : List ℕ) → d q ≡ d' q) → refuses o s d line ≡ refuses o' s' d' line
 refuses_same None o o' s s' d d' e f g = refl

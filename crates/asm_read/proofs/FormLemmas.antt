@@ -6,7 +6,8 @@ use Rattle.std.specs.Fmt.{signed_decimal}
 use Rattle.rv_isa.specs.Symbol.{is_bare, is_symbol_byte, spelled}
 use Rattle.rv_isa.specs.Text.{register, operands, instruction_line}
 use Rattle.rv_isa.specs.declared.inst.Inst.{Inst}
-use Rattle.asm_read.specs.Forms.{IsForm, IsLi, IsMv, IsRead, Says, form_line, li, mv, ret}
+use Rattle.asm_read.specs.Forms.{IsForm, IsLi, IsMv, IsRead, Says, form_line}
+use Rattle.rv_isa.specs.Instructions.{li, mv, ret}
 use Rattle.asm_read.specs.declared.form.Form.{Form}
 use Rattle.asm_read.specs.declared.form.Form.TheVariants.{Text, Global, Align, Define, Code}
 use Rattle.asm_read.proofs.LineLemmas.{li_line, li_operands, mv_line, mv_operands, operands_once}

@@ -1,11 +1,11 @@
 -- What a line says, and how it is spelled.
-use Rattle.std.specs.Prelude.{◌≡◌, ◌<◌, ◌==◌, ◌&&◌, ◌⊎◌, ℕ, ℤ, pos, Bool, false, not, List, [], ◌∷◌, ◌++◌, codes, IsTrue}
+use Rattle.std.specs.Prelude.{◌≡◌, ◌<◌, ◌==◌, ◌&&◌, ◌⊎◌, ℕ, ℤ, Bool, false, not, List, [], ◌∷◌, ◌++◌, codes, IsTrue}
 use Rattle.std.specs.List.{list_all}
 use Rattle.rv_isa.specs.Encoding.{IsSigned12}
+use Rattle.rv_isa.specs.Instructions.{li, mv, ret}
 use Rattle.rv_isa.specs.Symbol.{is_digit, spelled}
 use Rattle.rv_isa.specs.Text.{instruction_line, spelled_line}
 use Rattle.rv_isa.specs.declared.inst.Inst.{Inst}
-use Rattle.rv_isa.specs.declared.inst.Op.TheVariants.{Addi, Jalr}
 use Rattle.asm_read.specs.Names.{AreBytes}
 use Rattle.asm_read.specs.declared.form.Form.{Form}
 use Rattle.asm_read.specs.declared.form.Form.TheVariants.{Text, Global, Align, Define, Code}
@@ -31,18 +31,6 @@ IsLabel name = (f b : List ℕ) × (name ≡ codes ".LBB" ++ (f ++ 95 ∷ b)) ×
 -- a name of a symbol: any bytes, unless they are a label
 abbrev pub IsSymbol : List ℕ → Type 0
 IsSymbol name = AreBytes name × ¬ (IsLabel name)
-
--- `li rd, imm`
-abbrev pub li : ℕ → ℤ → Inst
-li rd imm = record { op = Addi; rd = rd; rs1 = 0; rs2 = 0; imm = imm }
-
--- `mv rd, rs`
-abbrev pub mv : ℕ → ℕ → Inst
-mv rd rs = record { op = Addi; rd = rd; rs1 = rs; rs2 = 0; imm = pos 0 }
-
--- `ret`
-abbrev pub ret : Inst
-ret = record { op = Jalr; rd = 0; rs1 = 1; rs2 = 0; imm = pos 0 }
 
 abbrev pub IsLi : Inst → Type 0
 IsLi inst = (rd : ℕ) × (imm : ℤ) × (rd < 32) × IsSigned12 imm × (inst ≡ li rd imm)

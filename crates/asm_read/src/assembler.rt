@@ -22,7 +22,9 @@ fn refused_line(alloc: Global, lines: &Lines) -> Result<Option<u64>, AllocError>
 {
     let readings = lines.readings.as_slice();
     let defined = defined_names(alloc, readings)?;
-    if let Some(at) = first_refused(alloc, readings, &defined)? {
+    let first = first_refused(alloc, readings, &defined);
+    drop(defined);
+    if let Some(at) = first? {
         return Ok(Some(at as u64 + 1));
     }
     if lines.whole {

@@ -2,7 +2,7 @@
 use rv_isa::{Inst, SymName};
 
 /// What a line says.
-#[derive(Debug, Drop)]
+#[derive(Drop)]
 pub enum Form {
     /// What follows goes into the text section.
     Text,

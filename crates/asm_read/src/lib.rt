@@ -4,7 +4,7 @@
 //! and `.p2align` with 2, symbols with a colon, and the instructions `li`, `mv` and `ret` (chapter
 //! "RISC-V Assembly Programmer's Handbook" of the RISC-V Instruction Set Manual, Volume I). A
 //! directive or an instruction is a tab, the word, and, where it has operands, a tab and these,
-//! parted by a comma and a blank. Each is read in the one spelling that the code generator gives it.
+//! separated by a comma and a blank. Each is read in the one spelling that the code generator gives it.
 #![tactic(auto)]
 
 mod assembler;

@@ -11,10 +11,10 @@ use crate::form::Form;
 use crate::number::read_immediate;
 use crate::register::read_register;
 use crate::symbol::read_symbol;
-use rv_isa::{Inst, Op, SymName};
+use rv_isa::{Inst, SymName};
 use std::alloc::{AllocError, Global};
 
-/// Two operands, parted by a comma and a blank. The first has no comma in it.
+/// Two operands, separated by a comma and a blank. The first has no comma in it.
 fn two_operands(operands: &[u8]) -> Option<(&[u8], &[u8])>
     ensures { MatchOption result
         ((first second : List ℕ) → IsAbsent 44 first
@@ -47,13 +47,7 @@ fn read_li(line: &[u8]) -> Option<Inst>
     let Some(imm) = read_immediate(second) else {
         return None;
     };
-    Some(Inst {
-        op: Op::Addi,
-        rd,
-        rs1: 0,
-        rs2: 0,
-        imm,
-    })
+    Some(Inst::li(rd, imm))
 }
 
 /// The instruction of a line `mv rd, rs`. A move from `zero` is spelled as a `li`.
@@ -75,13 +69,7 @@ fn read_mv(line: &[u8]) -> Option<Inst>
     if rs1 == 0 {
         return None;
     }
-    Some(Inst {
-        op: Op::Addi,
-        rd,
-        rs1,
-        rs2: 0,
-        imm: 0,
-    })
+    Some(Inst::mv(rd, rs1))
 }
 
 /// The instruction of a line.
@@ -95,13 +83,7 @@ fn read_code(line: &[u8]) -> Option<Inst>
         return Some(inst);
     }
     if line == b"\tret".as_slice() {
-        return Some(Inst {
-            op: Op::Jalr,
-            rd: 0,
-            rs1: 1,
-            rs2: 0,
-            imm: 0,
-        });
+        return Some(Inst::ret());
     }
     None
 }

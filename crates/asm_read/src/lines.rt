@@ -8,7 +8,7 @@ use crate::line::read_line;
 use std::alloc::{AllocError, Global};
 
 /// What was read from the lines of a text.
-#[derive(Debug, Drop)]
+#[derive(Drop)]
 pub struct Lines {
     /// What each line says, or `None` where it is outside the grammar.
     pub readings: Vec<Option<Form>>,

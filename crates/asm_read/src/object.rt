@@ -13,7 +13,7 @@ pub enum Section {
 }
 
 /// A symbol that an object defines.
-#[derive(Debug, Drop)]
+#[derive(Drop)]
 pub struct ObjectSymbol {
     /// Its name.
     pub name: SymName,
@@ -27,7 +27,7 @@ pub struct ObjectSymbol {
 
 /// The instructions of an object in the order of its text, each one that has a word. Contracts see
 /// a list.
-#[derive(Debug, Drop)]
+#[derive(Drop)]
 pub struct Words {
     words: Vec<Line>,
 }
@@ -67,7 +67,7 @@ impl Words {
 }
 
 /// The symbols of an object in the order of its text. Contracts see a list.
-#[derive(Debug, Drop)]
+#[derive(Drop)]
 pub struct Symbols {
     symbols: Vec<ObjectSymbol>,
 }
@@ -102,7 +102,7 @@ impl Symbols {
 }
 
 /// The names that an object's operands mention, in the order of its text. Contracts see a list.
-#[derive(Debug, Drop)]
+#[derive(Drop)]
 pub struct Needs {
     names: Vec<SymName>,
 }
@@ -132,7 +132,7 @@ impl Needs {
 }
 
 /// An assembled text: what it holds and what it needs.
-#[derive(Debug, Drop)]
+#[derive(Drop)]
 pub struct Object {
     /// Its instructions.
     pub words: Words,

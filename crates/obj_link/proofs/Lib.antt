@@ -1,3 +1,4 @@
+pub mod Causes
 pub mod Encodable
 pub mod FirstNames
 pub mod Lists

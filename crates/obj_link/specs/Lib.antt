@@ -1,4 +1,5 @@
 pub mod Cause
+pub mod Image
 pub mod Layout
 pub mod Names
 pub mod Runtime

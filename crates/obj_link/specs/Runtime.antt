@@ -1,50 +1,28 @@
 -- The runtime, which every program begins with.
-use Rattle.std.specs.Prelude.{ℕ, ℤ, pos, List, [], ◌∷◌, codes, true}
-use Rattle.rv_isa.specs.declared.inst.Op.TheVariants.{Addi, Lui, Jalr, Ecall}
+use Rattle.std.specs.Prelude.{ℕ, pos, List, [], ◌∷◌, codes, true}
+use Rattle.rv_isa.specs.Instructions.{ecall, jalr, li, lui, ret}
+use Rattle.rv_isa.specs.Registers.{a0, a1, a7, ra}
 use Rattle.rv_isa.specs.declared.inst.Line.{Line}
 use Rattle.rv_isa.specs.declared.inst.Line.TheVariants.{Plain, High, Low}
 use Rattle.asm_read.specs.declared.object.Object.{Object}
 use Rattle.asm_read.specs.declared.object.ObjectSymbol.{ObjectSymbol}
 use Rattle.asm_read.specs.declared.object.Section.TheVariants.{Text}
 
--- registers by their numbers
-abbrev pub ra : ℕ
-ra = 1
-
-abbrev pub a0 : ℕ
-a0 = 10
-
-abbrev pub a1 : ℕ
-a1 = 11
-
-abbrev pub a7 : ℕ
-a7 = 17
-
--- `li rd, imm`
-abbrev pub li : ℕ → ℤ → Line
-li rd imm = Plain (record { op = Addi; rd = rd; rs1 = 0; rs2 = 0; imm = imm })
-
-abbrev pub ecall : Line
-ecall = Plain (record { op = Ecall; rd = 0; rs1 = 0; rs2 = 0; imm = pos 0 })
-
-abbrev pub ret : Line
-ret = Plain (record { op = Jalr; rd = 0; rs1 = ra; rs2 = 0; imm = pos 0 })
-
 -- `lui ra, %hi(main)`
 abbrev pub lui_main : Line
-lui_main = High (record { op = Lui; rd = ra; rs1 = 0; rs2 = 0; imm = pos 0 }) (codes "main") (pos 0)
+lui_main = High (lui ra (pos 0)) (codes "main") (pos 0)
 
 -- `jalr ra, %lo(main)(ra)`
 abbrev pub jalr_main : Line
-jalr_main = Low (record { op = Jalr; rd = ra; rs1 = ra; rs2 = 0; imm = pos 0 }) (codes "main") (pos 0)
+jalr_main = Low (jalr ra ra (pos 0)) (codes "main") (pos 0)
 
 -- `_start` calls `main` with zeros and exits with its result, `__host_put` writes a byte,
 -- `__host_get` reads one
 abbrev pub runtime_words : List Line
 runtime_words =
-    li a0 (pos 0) ∷ li a1 (pos 0) ∷ lui_main ∷ jalr_main ∷ li a7 (pos 93) ∷ ecall
-    ∷ li a7 (pos 1) ∷ ecall ∷ ret
-    ∷ li a7 (pos 2) ∷ ecall ∷ ret ∷ []
+    Plain (li a0 (pos 0)) ∷ Plain (li a1 (pos 0)) ∷ lui_main ∷ jalr_main ∷ Plain (li a7 (pos 93)) ∷ Plain ecall
+    ∷ Plain (li a7 (pos 1)) ∷ Plain ecall ∷ Plain ret
+    ∷ Plain (li a7 (pos 2)) ∷ Plain ecall ∷ Plain ret ∷ []
 
 -- a global symbol at this distance from the beginning
 abbrev pub entry : List ℕ → ℕ → ObjectSymbol

@@ -1,5 +1,5 @@
 //! A linked program.
-ghost use Rattle.std.specs.Prelude.{◌≡◌, ◌≤◌, length};
+ghost use Rattle.std.specs.Prelude.{◌≡◌};
 
 use rv_isa::SymName;
 use std::marker::Model;
@@ -126,5 +126,4 @@ pub struct Image {
     pub instructions: u64,
     /// The addresses of the symbols of the runtime and of each object.
     pub addresses: Addresses,
-    ghost within_limit: { length bytes ≤ 67108864 },
 }

@@ -12,6 +12,8 @@ mod runtime;
 mod words;
 
 pub use image::{Addresses, Bytes, Image, ObjectAddresses, SymbolAddress};
-pub use laws::{needs_have_addresses, parts_make_the_address};
-pub use linking::link;
-pub use refusal::LinkRefusal;
+pub use laws::{
+    images_have_their_size, needs_have_addresses, objects_have_one_answer, parts_make_the_address,
+};
+pub use linking::{link, link_distinct};
+pub use refusal::{LinkRefusal, Unlinked};

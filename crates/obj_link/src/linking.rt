@@ -1,16 +1,16 @@
 //! Links objects.
-ghost use Rattle.std.specs.Prelude.{◌≡◌, ◌∷◌, ◌≤◌, [], slice_get, Some, IfOk, IfErr, OnOk};
-ghost use Rattle.obj_link.specs.Cause.{IsCause, IsResolved};
-ghost use Rattle.obj_link.specs.Layout.{addresses, image_size, instruction_count};
-ghost use Rattle.obj_link.specs.Names.{duplicates, undefined};
+ghost use Rattle.std.specs.Prelude.{◌≡◌, ◌∷◌, ◌≤◌, [], IfOk, IfErr, OnOk};
+ghost use Rattle.obj_link.specs.Cause.{IsCause, IsLinkable, IsUnlinked};
+ghost use Rattle.obj_link.specs.Image.{linked_image};
+ghost use Rattle.obj_link.specs.Layout.{image_size};
+ghost use Rattle.obj_link.specs.Names.{duplicates};
 ghost use Rattle.obj_link.specs.Runtime.{runtime};
-ghost use Rattle.obj_link.specs.Words.{image_bytes};
 
 use crate::image::{Bytes, Image, MAX_IMAGE_BYTES};
 use crate::inputs::Inputs;
 use crate::layout::{all_addresses, global_addresses, total_size};
 use crate::names::{first_duplicate, first_undefined};
-use crate::refusal::LinkRefusal;
+use crate::refusal::{LinkRefusal, Unlinked};
 use crate::runtime::runtime_object;
 use crate::words::bytes_of_image;
 use asm_read::Object;
@@ -21,60 +21,89 @@ use std::alloc::{AllocError, Global};
 ///
 /// # Errors
 ///
-/// The causes stand in [`LinkRefusal`], and the first of them that holds is answered.
+/// The causes are in [`LinkRefusal`], and the first of them that holds is answered.
 pub fn link(alloc: Global, objects: &[Object]) -> Result<Image, LinkRefusal>
-    ensures resolved { OnOk result (IsResolved (runtime ∷ objects.now)) }
-    ensures bytes { IfOk result (λ image. image.bytes ≡ image_bytes (runtime ∷ objects.now)) }
-    ensures instructions { IfOk result
-        (λ image. image.instructions ≡ instruction_count (runtime ∷ objects.now)) }
-    ensures addresses { IfOk result (λ image. image.addresses ≡ addresses (runtime ∷ objects.now)) }
+    ensures linkable { OnOk result (IsLinkable (runtime ∷ objects.now)) }
+    ensures image { IfOk result (λ image. image ≡ linked_image (runtime ∷ objects.now)) }
     ensures refused { IfErr result (λ refusal. IsCause refusal (runtime ∷ objects.now)) }
 {
-    let runtime = runtime_object(alloc).map_err(|_| LinkRefusal::NoMemory)?;
-    let inputs = Inputs::new(&runtime, objects);
-    check_names(alloc, &inputs)?;
-    let size = total_size(&inputs);
-    if size > MAX_IMAGE_BYTES {
-        return Err(LinkRefusal::TooLarge { bytes: size });
-    }
-    image_of(alloc, &inputs, size).map_err(|_| LinkRefusal::NoMemory)
+    let Ok(runtime) = runtime_object(alloc) else {
+        return Err(LinkRefusal::NoMemory);
+    };
+    image_of(alloc, &Inputs::new(&runtime, objects))
 }
 
-/// Whether each global name has one definition, and each need has one.
-fn check_names(alloc: Global, inputs: &Inputs<'_>) -> Result<(), LinkRefusal>
-    ensures ok { OnOk result (IsResolved inputs.now) }
-    ensures err { IfErr result (λ refusal. IsCause refusal inputs.now) }
+/// Links the runtime and these objects, whose global names differ, in this order, into one image.
+///
+/// # Errors
+///
+/// The causes are in [`Unlinked`], and the first of them that holds is answered.
+pub fn link_distinct(alloc: Global, objects: &[Object]) -> Result<Image, Unlinked>
+    requires { duplicates (runtime ∷ objects.now) ≡ [] }
+    ensures linkable { OnOk result (IsLinkable (runtime ∷ objects.now)) }
+    ensures image { IfOk result (λ image. image ≡ linked_image (runtime ∷ objects.now)) }
+    ensures refused { IfErr result (λ why. IsUnlinked why (runtime ∷ objects.now)) }
+{
+    let Ok(runtime) = runtime_object(alloc) else {
+        return Err(Unlinked::NoMemory);
+    };
+    image_of_distinct(alloc, &Inputs::new(&runtime, objects))
+}
+
+/// The image of objects.
+fn image_of(alloc: Global, inputs: &Inputs<'_>) -> Result<Image, LinkRefusal>
+    ensures linkable { OnOk result (IsLinkable inputs.now) }
+    ensures image { IfOk result (λ image. image ≡ linked_image inputs.now) }
+    ensures refused { IfErr result (λ refusal. IsCause refusal inputs.now) }
 {
     if let Some(name) = first_duplicate(inputs) {
-        return Err(LinkRefusal::Duplicate {
-            name: copied(alloc, name)?,
+        return Err(match copied(alloc, name) {
+            Ok(name) => LinkRefusal::Duplicate { name },
+            Err(_) => LinkRefusal::NoMemory,
         });
     }
-    if let Some(name) = first_undefined(inputs) {
-        return Err(LinkRefusal::Undefined {
-            name: copied(alloc, name)?,
-        });
+    match image_of_distinct(alloc, inputs) {
+        Ok(image) => Ok(image),
+        Err(Unlinked::Undefined { name }) => Err(LinkRefusal::Undefined { name }),
+        Err(Unlinked::TooLarge { bytes }) => Err(LinkRefusal::TooLarge { bytes }),
+        Err(Unlinked::NoMemory) => Err(LinkRefusal::NoMemory),
     }
-    Ok(())
 }
 
-fn copied(alloc: Global, name: &[u8]) -> Result<SymName, LinkRefusal>
-    ensures ok { IfOk result (λ copy. copy ≡ name.now) }
-    ensures err { IfErr result (λ refusal. refusal ≡ LinkRefusal.NoMemory) }
+/// The image of objects whose global names differ.
+fn image_of_distinct(alloc: Global, inputs: &Inputs<'_>) -> Result<Image, Unlinked>
+    requires { duplicates inputs.now ≡ [] }
+    ensures linkable { OnOk result (IsLinkable inputs.now) }
+    ensures image { IfOk result (λ image. image ≡ linked_image inputs.now) }
+    ensures refused { IfErr result (λ why. IsUnlinked why inputs.now) }
 {
-    match Vec::from_slice(alloc, name) {
-        Ok(bytes) => Ok(SymName::from_vec(bytes)),
-        Err(_) => Err(LinkRefusal::NoMemory),
+    if let Some(name) = first_undefined(inputs) {
+        return Err(match copied(alloc, name) {
+            Ok(name) => Unlinked::Undefined { name },
+            Err(_) => Unlinked::NoMemory,
+        });
     }
+    let size = total_size(inputs);
+    if size > MAX_IMAGE_BYTES {
+        return Err(Unlinked::TooLarge { bytes: size });
+    }
+    match image_of_size(alloc, inputs, size) {
+        Ok(image) => Ok(image),
+        Err(_) => Err(Unlinked::NoMemory),
+    }
+}
+
+fn copied(alloc: Global, name: &[u8]) -> Result<SymName, AllocError>
+    ensures { IfOk result (λ copy. copy ≡ name.now) }
+{
+    Ok(SymName::from_vec(Vec::from_slice(alloc, name)?))
 }
 
 /// The image of objects whose size is this.
-fn image_of(alloc: Global, inputs: &Inputs<'_>, size: u64) -> Result<Image, AllocError>
+fn image_of_size(alloc: Global, inputs: &Inputs<'_>, size: u64) -> Result<Image, AllocError>
     requires limit { size ≤ 67108864 }
     requires size { size ≡ image_size inputs.now }
-    ensures bytes { IfOk result (λ image. image.bytes ≡ image_bytes inputs.now) }
-    ensures instructions { IfOk result (λ image. image.instructions ≡ instruction_count inputs.now) }
-    ensures addresses { IfOk result (λ image. image.addresses ≡ addresses inputs.now) }
+    ensures { IfOk result (λ image. image ≡ linked_image inputs.now) }
 {
     let globals = global_addresses(alloc, inputs)?;
     let bytes = bytes_of_image(alloc, inputs, globals.as_slice())?;

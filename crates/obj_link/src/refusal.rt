@@ -1,7 +1,7 @@
 //! Why objects cannot be linked.
 use rv_isa::SymName;
 
-/// Why there is no image. The variants stand in the order in which they are looked for.
+/// Why there is no image. The variants are in the order in which they are looked for.
 #[derive(Debug, Drop)]
 pub enum LinkRefusal {
     /// A global symbol that an object before, or the runtime, also defines as a global one.
@@ -9,6 +9,23 @@ pub enum LinkRefusal {
         /// The symbol.
         name: SymName,
     },
+    /// A name that an object needs, which neither it nor a global symbol defines.
+    Undefined {
+        /// The name.
+        name: SymName,
+    },
+    /// The image would exceed 67,108,864 bytes.
+    TooLarge {
+        /// Its size in bytes, or 2^64 - 1 where that is greater.
+        bytes: u64,
+    },
+    /// An allocation failed.
+    NoMemory,
+}
+
+/// Why objects whose global names differ have no image. The variants are in the order in which they are looked for.
+#[derive(Debug, Drop)]
+pub enum Unlinked {
     /// A name that an object needs, which neither it nor a global symbol defines.
     Undefined {
         /// The name.

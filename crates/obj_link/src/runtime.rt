@@ -1,20 +1,13 @@
 //! The runtime, which every program begins with.
 ghost use Rattle.std.specs.Prelude.{◌≡◌, ◌∷◌, ◌++◌, [], pos, codes, true, IfOk, length};
-ghost use Rattle.obj_link.specs.Runtime.{a7, ecall, entry, li, runtime, runtime_symbols, runtime_words};
-ghost use Rattle.rv_isa.specs.declared.inst.Op.TheVariants.{Addi, Ecall, Jalr, Lui};
+ghost use Rattle.obj_link.specs.Runtime.{entry, runtime, runtime_symbols, runtime_words};
+ghost use Rattle.rv_isa.specs.Instructions.{ecall, li};
+ghost use Rattle.rv_isa.specs.Registers.{a7};
+ghost use Rattle.rv_isa.specs.declared.inst.Line.TheVariants.{Plain};
 
 use asm_read::{Needs, Object, ObjectSymbol, Section, Symbols, Words};
-use rv_isa::{Inst, Line, Op, SymName};
+use rv_isa::{A0, A1, A7, Inst, Line, RA, SymName};
 use std::alloc::{AllocError, Global};
-
-// Registers by their names in the calling convention.
-const RA: u8 = 1;
-
-const A0: u8 = 10;
-
-const A1: u8 = 11;
-
-const A7: u8 = 17;
 
 // The services that an `ecall` asks for, by the number in `a7`.
 /// Writes the low byte of `a0`.
@@ -44,32 +37,32 @@ fn lines(alloc: Global) -> Result<Words, AllocError>
     ensures { IfOk result (λ words. words ≡ runtime_words) }
 {
     let mut lines = Vec::new(alloc);
-    lines.push(li(A0, 0))?;
-    lines.push(li(A1, 0))?;
+    lines.push(Line::Plain(Inst::li(A0, 0)))?;
+    lines.push(Line::Plain(Inst::li(A1, 0)))?;
     lines.push(Line::High {
-        inst: inst(Op::Lui, RA, 0, 0),
+        inst: Inst::lui(RA, 0),
         symbol: symbol_name(alloc, b"main")?,
         offset: 0,
     })?;
     lines.push(Line::Low {
-        inst: inst(Op::Jalr, RA, RA, 0),
+        inst: Inst::jalr(RA, RA, 0),
         symbol: symbol_name(alloc, b"main")?,
         offset: 0,
     })?;
     call_host(&mut lines, EXIT)?;
     call_host(&mut lines, PUT)?;
-    lines.push(Line::Plain(inst(Op::Jalr, 0, RA, 0)))?;
+    lines.push(Line::Plain(Inst::ret()))?;
     call_host(&mut lines, GET)?;
-    lines.push(Line::Plain(inst(Op::Jalr, 0, RA, 0)))?;
+    lines.push(Line::Plain(Inst::ret()))?;
     Ok(Words::from_vec(lines))
 }
 
 /// Asks for a service.
 fn call_host(lines: &mut Vec<Line>, service: i64) -> Result<(), AllocError>
-    ensures { IfOk result (λ _. lines.new.items ≡ lines.old.items ++ li a7 service ∷ ecall ∷ []) }
+    ensures { IfOk result (λ _. lines.new.items ≡ lines.old.items ++ Plain (li a7 service) ∷ Plain ecall ∷ []) }
 {
-    lines.push(li(A7, service))?;
-    lines.push(Line::Plain(inst(Op::Ecall, 0, 0, 0)))?;
+    lines.push(Line::Plain(Inst::li(A7, service)))?;
+    lines.push(Line::Plain(Inst::ecall()))?;
     Ok(())
 }
 
@@ -99,22 +92,4 @@ fn symbol_name(alloc: Global, name: &[u8]) -> Result<SymName, AllocError>
     ensures { IfOk result (λ copy. copy ≡ name.now) }
 {
     Ok(SymName::from_vec(Vec::from_slice(alloc, name)?))
-}
-
-fn li(rd: u8, imm: i64) -> Line
-    ensures { result ≡ li rd imm }
-{
-    Line::Plain(inst(Op::Addi, rd, 0, imm))
-}
-
-fn inst(op: Op, rd: u8, rs1: u8, imm: i64) -> Inst
-    ensures { result ≡ record { op = op; rd = rd; rs1 = rs1; rs2 = 0; imm = imm } }
-{
-    Inst {
-        op,
-        rd,
-        rs1,
-        rs2: 0,
-        imm,
-    }
 }

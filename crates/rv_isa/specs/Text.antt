@@ -16,7 +16,7 @@ register_names =
 abbrev pub register : ℕ → List ℕ
 register r = slice_index_or register_names r []
 
--- operands, parted by a comma and a blank
+-- operands, separated by a comma and a blank
 abbrev pub operands : List (List ℕ) → List ℕ
 operands [] = []
 operands (first ∷ []) = first

@@ -1,4 +1,8 @@
 //! An instruction and a line of code.
+ghost use Rattle.std.specs.Prelude.{◌≡◌};
+ghost use Rattle.rv_isa.specs.Instructions.{addi, ecall, jalr, li, lui, mv, ret};
+
+use crate::register::{RA, ZERO};
 use crate::symbol::SymName;
 
 /// The instructions, one variant for each (chapter "RV32/64G Instruction Set Listings").
@@ -27,6 +31,81 @@ pub struct Inst {
     pub rs2: u8,
     /// The immediate as the assembly writes it; that of `lui` is 0 to 1048575.
     pub imm: i64,
+}
+
+impl Inst {
+    /// `addi rd, rs1, imm`.
+    pub fn addi(rd: u8, rs1: u8, imm: i64) -> Inst
+        ensures { result ≡ addi rd rs1 imm }
+    {
+        Inst {
+            op: Op::Addi,
+            rd,
+            rs1,
+            rs2: ZERO,
+            imm,
+        }
+    }
+
+    /// `lui rd, imm`.
+    pub fn lui(rd: u8, imm: i64) -> Inst
+        ensures { result ≡ lui rd imm }
+    {
+        Inst {
+            op: Op::Lui,
+            rd,
+            rs1: ZERO,
+            rs2: ZERO,
+            imm,
+        }
+    }
+
+    /// `jalr rd, imm(rs1)`.
+    pub fn jalr(rd: u8, rs1: u8, imm: i64) -> Inst
+        ensures { result ≡ jalr rd rs1 imm }
+    {
+        Inst {
+            op: Op::Jalr,
+            rd,
+            rs1,
+            rs2: ZERO,
+            imm,
+        }
+    }
+
+    /// `ecall`.
+    pub fn ecall() -> Inst
+        ensures { result ≡ ecall }
+    {
+        Inst {
+            op: Op::Ecall,
+            rd: ZERO,
+            rs1: ZERO,
+            rs2: ZERO,
+            imm: 0,
+        }
+    }
+
+    /// `li rd, imm`.
+    pub fn li(rd: u8, imm: i64) -> Inst
+        ensures { result ≡ li rd imm }
+    {
+        Inst::addi(rd, ZERO, imm)
+    }
+
+    /// `mv rd, rs`.
+    pub fn mv(rd: u8, rs: u8) -> Inst
+        ensures { result ≡ mv rd rs }
+    {
+        Inst::addi(rd, rs, 0)
+    }
+
+    /// `ret`.
+    pub fn ret() -> Inst
+        ensures { result ≡ ret }
+    {
+        Inst::jalr(ZERO, RA, 0)
+    }
 }
 
 /// One instruction of a function's code, whose immediate may wait for a symbol's address.

@@ -5,8 +5,10 @@
 
 mod encoding;
 mod inst;
+mod register;
 mod symbol;
 
 pub use encoding::{decode, decoding_is_undone, encode, encoding_is_undone, words_fit};
 pub use inst::{Inst, Line, Op};
+pub use register::{A0, A1, A7, RA, T0, T1, ZERO, register_name};
 pub use symbol::SymName;

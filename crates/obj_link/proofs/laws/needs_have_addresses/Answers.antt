@@ -2,4 +2,4 @@ use Rattle.obj_link.proofs.Needs.{all_needs_named}
 use Rattle.obj_link.proofs.laws.needs_have_addresses.Goals as goal
 
 pub returns : goal.returns
-returns c = λ objects resolved. all_needs_named objects resolved.1
+returns c = all_needs_named

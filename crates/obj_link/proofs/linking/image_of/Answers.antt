@@ -1,14 +1,21 @@
-use Rattle.obj_link.specs.Layout.{image_size}
-use Rattle.obj_link.specs.Words.{image_bytes}
-use Rattle.std.proofs.Common.{◌≡◌, ◌∙◌, ap, length, arith}
-use Rattle.obj_link.proofs.Sizes.{length-image_bytes, image_size-instructions}
+use Rattle.std.proofs.Common.{subst, sym}
+use Rattle.obj_link.specs.Cause.{IsUnlinked}
+use Rattle.obj_link.specs.Names.{duplicates}
+use Rattle.obj_link.specs.declared.refusal.Unlinked.{Unlinked}
+use Rattle.obj_link.proofs.Lists.{first_empty}
 use Rattle.obj_link.proofs.linking.image_of.Goals as goal
 
-pub invariant_of-result : goal.invariant_of-result
-invariant_of-result c =
-    let is : c.from_vec.result ≡ image_bytes c.args.inputs.now = c.from_vec.ensures ∙ c.in_ok-bytes.ensures in
-    let size : length c.from_vec.result ≡ image_size c.args.inputs.now = ap length is ∙ length-image_bytes c.args.inputs.now in
-    record { within_limit = omega arith }
+pub image_of_distinct-requires : goal.image_of_distinct-requires
+image_of_distinct-requires c = first_empty (duplicates c.args.inputs.now) (sym c.in_default.ensures)
 
-pub returns-clause-instructions : goal.returns-clause-instructions
-returns-clause-instructions c = let size = image_size-instructions c.args.inputs.now in omega arith
+pub returns-in-Err-Undefined-clause-refused : goal.returns-in-Err-Undefined-clause-refused
+returns-in-Err-Undefined-clause-refused c = (
+  first_empty (duplicates c.args.inputs.now) (sym c.in_default.ensures),
+  subst (λ (u : Unlinked). IsUnlinked u c.args.inputs.now) c.in-Err-Undefined.field-0-is c.in-Err-Undefined.ensures.refused,
+)
+
+pub returns-in-Err-TooLarge-clause-refused : goal.returns-in-Err-TooLarge-clause-refused
+returns-in-Err-TooLarge-clause-refused c = (
+  first_empty (duplicates c.args.inputs.now) (sym c.in_default.ensures),
+  subst (λ (u : Unlinked). IsUnlinked u c.args.inputs.now) c.in-Err-TooLarge.field-0-is c.in-Err-TooLarge.ensures.refused,
+)
