@@ -1,10 +1,10 @@
 -- How facts on what sources gave and sinks got go on from one call to the next.
-use Rattle.std.proofs.Common.{◌≡◌, ℕ, ◌+◌, ◌-◌, ◌≤◌, List, [], ◌++◌, length, take, drop, None, Some, refl, sym, ap, ◌∙◌, subst, length-drop, append_assoc, append-nil, take-append-drop, arith}
+use Rattle.std.proofs.Common.{◌≡◌, ℕ, ◌+◌, ◌-◌, ◌<◌, ◌≤◌, List, [], ◌++◌, length, take, drop, None, Some, refl, sym, ap, ◌∙◌, subst, length-append, length-drop, append_assoc, append-nil, take-append-drop, arith}
 use Rattle.std.proofs.Math.Seq.{take-add, take-length}
 use Rattle.std.proofs.KnownBytes.{Appends-nil, Appends-trans, Consumes-nil, Consumes-trans}
 use Rattle.std.specs.declared.option.Option.{Option}
 use Rattle.std.specs.Io.KnownBytes.{Appends, Consumes}
-use Rattle.cg_io.specs.Told.{GivesAll, TakesAtMost, AppendsPrefix}
+use Rattle.cg_io.specs.Told.{GivesAll, TakesAtMost, AppendsProperPrefix}
 
 -- `&xs[n..]` is all that follows the first n
 rest_from : (n : ℕ) (xs : List ℕ) → take (length xs - n) (drop n xs) ≡ drop n xs
@@ -17,39 +17,46 @@ Appends-take-add a b c n m xs first second =
     let whole = subst (λ (l : List ℕ). Appends b c (take m l)) (rest_from n xs) second in
     subst (Appends a c) (sym (take-add n m xs)) (Appends-trans a b c _ _ first whole)
 
--- ---- a first part of what was due
+-- ---- a proper prefix of what was due
 
--- nothing is a first part
-pub AppendsPrefix-none : (a : Option (List ℕ)) (due : List ℕ) → AppendsPrefix a a due
-AppendsPrefix-none a due = record { front = []; rest = due; split = refl; appended = Appends-nil a }
-
--- all of it is a first part
-pub AppendsPrefix-all : (a b : Option (List ℕ)) (due : List ℕ) → Appends a b due → AppendsPrefix a b due
-AppendsPrefix-all a b due all = record { front = due; rest = []; split = sym (append-nil due); appended = all }
-
--- the first n bytes are a first part
-pub AppendsPrefix-take : (a b : Option (List ℕ)) (n : ℕ) (due : List ℕ) → Appends a b (take n due) → AppendsPrefix a b due
-AppendsPrefix-take a b n due part = record { front = take n due; rest = drop n due; split = sym (take-append-drop n due); appended = part }
-
--- a first part of a text is one of a longer text
-pub AppendsPrefix-longer : (a b : Option (List ℕ)) (due more : List ℕ) → AppendsPrefix a b due → AppendsPrefix a b (due ++ more)
-AppendsPrefix-longer a b due more p =
-    record { front = p.front; rest = p.rest ++ more; split = ap (λ l. l ++ more) p.split ∙ append_assoc p.front p.rest more; appended = p.appended }
-
--- a text and then a first part of another is a first part of both
-pub AppendsPrefix-after : (a b c : Option (List ℕ)) (written due : List ℕ) → Appends a b written → AppendsPrefix b c due → AppendsPrefix a c (written ++ due)
-AppendsPrefix-after a b c written due first p =
+-- the first n bytes of more than n are one
+pub AppendsProperPrefix-take : (a b : Option (List ℕ)) (n : ℕ) (due : List ℕ) → n < length due → Appends a b (take n due) → AppendsProperPrefix a b due
+AppendsProperPrefix-take a b n due more part =
     record {
-      front = written ++ p.front;
+      prefix = take n due;
+      rest = drop n due;
+      split = sym (take-append-drop n due);
+      proper = omega (arith, length-drop n due, more);
+      appended = part;
+    }
+
+-- one of a text is one of a longer text
+pub AppendsProperPrefix-longer : (a b : Option (List ℕ)) (due more : List ℕ) → AppendsProperPrefix a b due → AppendsProperPrefix a b (due ++ more)
+AppendsProperPrefix-longer a b due more p =
+    record {
+      prefix = p.prefix;
+      rest = p.rest ++ more;
+      split = ap (λ l. l ++ more) p.split ∙ append_assoc p.prefix p.rest more;
+      proper = omega (arith, length-append p.rest more, p.proper);
+      appended = p.appended;
+    }
+
+-- a text and then one of another is one of both
+pub AppendsProperPrefix-after : (a b c : Option (List ℕ)) (written due : List ℕ) → Appends a b written → AppendsProperPrefix b c due →
+    AppendsProperPrefix a c (written ++ due)
+AppendsProperPrefix-after a b c written due first p =
+    record {
+      prefix = written ++ p.prefix;
       rest = p.rest;
-      split = ap (λ l. written ++ l) p.split ∙ sym (append_assoc written p.front p.rest);
+      split = ap (λ l. written ++ l) p.split ∙ sym (append_assoc written p.prefix p.rest);
+      proper = p.proper;
       appended = Appends-trans a b c _ _ first p.appended;
     }
 
 -- where the sink tells its bytes, some bytes more would make all that was due
-pub AppendsPrefix-told : (old new due : List ℕ) → AppendsPrefix (Some old) (Some new) due → (rest : List ℕ) × (new ++ rest ≡ old ++ due)
-AppendsPrefix-told old new due p =
-    (p.rest, ap (λ l. l ++ p.rest) p.appended ∙ append_assoc old p.front p.rest ∙ ap (λ l. old ++ l) (sym p.split))
+pub AppendsProperPrefix-told : (old new due : List ℕ) → AppendsProperPrefix (Some old) (Some new) due → (rest : List ℕ) × (0 < length rest) × (new ++ rest ≡ old ++ due)
+AppendsProperPrefix-told old new due p =
+    (p.rest, p.proper, ap (λ l. l ++ p.rest) p.appended ∙ append_assoc old p.prefix p.rest ∙ ap (λ l. old ++ l) (sym p.split))
 
 -- ---- what a source gave
 

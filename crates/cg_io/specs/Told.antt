@@ -1,6 +1,6 @@
 -- What is told of the bytes that a source has left and that a sink was given, over whole calls. Each is an
 -- `Option`: what is not told meets all of these facts.
-use Rattle.std.specs.Prelude.{◌≡◌, ℕ, ◌≤◌, List, ◌++◌, length, IfSome}
+use Rattle.std.specs.Prelude.{◌≡◌, ℕ, ◌<◌, ◌≤◌, List, ◌++◌, length, IfSome}
 use Rattle.std.specs.declared.option.Option.{Option}
 use Rattle.std.specs.Io.KnownBytes.{Consumes, Appends, IsAtEnd}
 
@@ -25,9 +25,10 @@ pub record TakesAtMost (n : ℕ) (old new : Option (List ℕ)) : Type 0 where
 abbrev pub HasAtMost : ℕ → Option (List ℕ) → Type 0
 HasAtMost n left = IfSome left (λ bytes. length bytes ≤ n)
 
--- of the bytes that were due, the sink got some first part, which may be none or all
-pub record AppendsPrefix (old new : Option (List ℕ)) (due : List ℕ) : Type 0 where
-  pub front : List ℕ
+-- of the bytes that were due, the sink got a prefix that is not all of them
+pub record AppendsProperPrefix (old new : Option (List ℕ)) (due : List ℕ) : Type 0 where
+  pub prefix : List ℕ
   pub rest : List ℕ
-  pub split : due ≡ front ++ rest
-  pub appended : Appends old new front
+  pub split : due ≡ prefix ++ rest
+  pub proper : 0 < length rest
+  pub appended : Appends old new prefix

@@ -1,7 +1,7 @@
 ghost use Rattle.std.specs.Prelude.{◌≡◌, ◌+◌, ◌<◌, ◌≤◌, ◌⊎◌, length, take, OnOk, OnErr, IfOk, IfErr, IsErrOf};
 ghost use Rattle.std.specs.Io.KnownBytes.{Appends};
 ghost use Rattle.cg_io.specs.Faults.{Rose};
-ghost use Rattle.cg_io.specs.Told.{GivesAll, TakesAtMost, AppendsPrefix, HasAtMost};
+ghost use Rattle.cg_io.specs.Told.{GivesAll, TakesAtMost, AppendsProperPrefix, HasAtMost};
 ghost use Rattle.cg_io.specs.ReadEnds.{EndsEarly, OnlyTooLongAbove};
 
 use crate::errors::{Failed, ReadEnd, WriteFault};
@@ -54,7 +54,7 @@ pub fn write_all<O: Sink>(sink: &mut O, bytes: &[u8]) -> Result<(), WriteFault>
     ensures part { IfErr result (λ fault. Appends (O.written sink.old) (O.written sink.new)
         (take fault.written bytes.now)) }
     ensures not_all { IfErr result (λ fault. fault.written < length bytes.now) }
-    ensures prefix { AppendsPrefix (O.written sink.old) (O.written sink.new) bytes.now }
+    ensures cut_off { OnErr result (AppendsProperPrefix (O.written sink.old) (O.written sink.new) bytes.now) }
 
     ensures fault { OnErr result (Rose (O.faults sink.old) (O.faults sink.new)) }
     ensures kept { OnOk result (O.faults sink.new ≡ O.faults sink.old) }

@@ -8,7 +8,8 @@ use Rattle.rv_isa.specs.Encoding.{IsInst, decoded, encoded}
 use Rattle.rv_isa.proofs.Table.{decoded-encoded, has_fields}
 use Rattle.rv_mach.specs.declared.stop.Stop.TheVariants.{Running}
 use Rattle.rv_mach.specs.Layout.{word_at, fetched, image_start, stack_start}
-use Rattle.rv_mach.specs.State.{Run, sp, register}
+use Rattle.rv_mach.specs.State.{Run, register}
+use Rattle.rv_isa.specs.Registers.{sp}
 use Rattle.rv_mach.specs.Step.{act, settled, step}
 use Rattle.rv_mach.proofs.Steps.{fetched-at, instruction-at, step-at}
 

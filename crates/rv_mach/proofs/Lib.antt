@@ -2,3 +2,4 @@ pub mod Runs
 pub mod Registers
 pub mod Steps
 pub mod ImageWords
+pub mod Puts

@@ -8,7 +8,8 @@ use Rattle.rv_mach.specs.declared.stop.Stop.{Stop}
 use Rattle.rv_mach.specs.declared.stop.Stop.TheVariants.{Exited, Trapped, StackOut, Running}
 use Rattle.rv_mach.specs.declared.stop.TrapKind.TheVariants as trap
 use Rattle.rv_mach.specs.Registers.{IsRegisterFile}
-use Rattle.rv_mach.specs.State.{State, Run, registers_with, register, a0, a7, start}
+use Rattle.rv_mach.specs.State.{State, Run, registers_with, register, start}
+use Rattle.rv_isa.specs.Registers.{a0, a7}
 use Rattle.rv_mach.specs.Step.{Effect, falls, jumps, puts, stops, act_by, called, put, get, exit, with_input, executed, instruction, settled, step_by}
 use Rattle.rv_mach.specs.Run.{run_of}
 

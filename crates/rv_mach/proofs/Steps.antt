@@ -6,7 +6,8 @@ use Rattle.rv_isa.specs.Encoding.{decoded}
 use Rattle.rv_mach.specs.declared.stop.Stop.{Stop}
 use Rattle.rv_mach.specs.declared.stop.Stop.TheVariants.{Running, StackOut}
 use Rattle.rv_mach.specs.Layout.{fetched, word_at, image_start, stack_start}
-use Rattle.rv_mach.specs.State.{State, Run, sp, register}
+use Rattle.rv_mach.specs.State.{State, Run, register}
+use Rattle.rv_isa.specs.Registers.{sp}
 use Rattle.rv_mach.specs.Step.{act, executed, instruction, instruction_fetched, instruction_of_word, settled, step, step_by, next_pc}
 
 pub fetched-at : (image : List ℕ) (address : ℕ) → address % 4 ≡ 0 → image_start ≤ address

@@ -6,7 +6,8 @@ use Rattle.rv_isa.specs.declared.inst.Inst.{Inst}
 use Rattle.rv_isa.specs.declared.inst.Op.TheVariants.{Ecall}
 use Rattle.rv_mach.specs.declared.stop.Stop.{Stop}
 use Rattle.rv_mach.specs.declared.stop.Stop.TheVariants.{Running}
-use Rattle.rv_mach.specs.State.{State, Run, fresh, a7, register, start}
+use Rattle.rv_mach.specs.State.{State, Run, fresh, register, start}
+use Rattle.rv_isa.specs.Registers.{a7}
 use Rattle.rv_mach.specs.Step.{put, step, instruction}
 
 -- n steps of a machine on an input, of which the bytes that were taken before are gone
@@ -15,16 +16,16 @@ run_of input zero m = fresh m
 run_of input (suc n) m = step input (run_of input n m)
 
 -- what a run shows
-pub record Shown : Type 0 where
+pub record Behaviour : Type 0 where
   pub stop : Stop
   pub output : List ℕ
 
-abbrev pub shown : Run → Shown
-shown r = record { stop = r.machine.stop; output = r.output }
+abbrev pub behaviour : Run → Behaviour
+behaviour r = record { stop = r.machine.stop; output = r.output }
 
 -- what n steps of an image on an input show
-abbrev pub machine_run : List ℕ → List ℕ → ℕ → Shown
-machine_run image input n = shown (run_of input n (start image))
+abbrev pub machine_run : List ℕ → List ℕ → ℕ → Behaviour
+machine_run image input n = behaviour (run_of input n (start image))
 
 -- the next instruction is a call that puts a byte
 pub record IsAtPut (m : State) : Type 0 where

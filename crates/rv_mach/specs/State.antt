@@ -1,5 +1,6 @@
 -- The machine as it stands between two steps, and a run so far.
 use Rattle.std.specs.Prelude.{◌-◌, ◌%◌, ◌^◌, ℕ, suc, zero, List, [], ◌++◌, replicate, slice_index, slice_set}
+use Rattle.rv_isa.specs.Registers.{sp}
 use Rattle.rv_mach.specs.declared.stop.Stop.{Stop}
 use Rattle.rv_mach.specs.declared.stop.Stop.TheVariants.{Running}
 use Rattle.rv_mach.specs.Layout.{image_start, stack_start, stack_end}
@@ -30,16 +31,6 @@ prefixed front r = record { machine = r.machine; output = front ++ r.output }
 -- numbers of 64 bits wrap
 abbrev pub wrapped : ℕ → ℕ
 wrapped n = n % 2 ^ 64
-
--- the stack pointer, and the registers of a call of the environment: its argument or result, and its number
-abbrev pub sp : ℕ
-sp = 2
-
-abbrev pub a0 : ℕ
-a0 = 10
-
-abbrev pub a7 : ℕ
-a7 = 17
 
 abbrev pub register : ℕ → State → ℕ
 register r m = slice_index m.registers r

@@ -11,7 +11,8 @@ use Rattle.rv_mach.specs.declared.stop.Stop.TheVariants.{Exited, Trapped, StackO
 use Rattle.rv_mach.specs.declared.stop.TrapKind.{TrapKind}
 use Rattle.rv_mach.specs.declared.stop.TrapKind.TheVariants as trap
 use Rattle.rv_mach.specs.Layout.{stack_start, fetched}
-use Rattle.rv_mach.specs.State.{State, Run, wrapped, sp, a0, a7, register, with_register}
+use Rattle.rv_mach.specs.State.{State, Run, wrapped, register, with_register}
+use Rattle.rv_isa.specs.Registers.{sp, a0, a7}
 
 -- what an instruction does with a machine: it falls through to the next one, jumps, puts a byte and
 -- falls through, or stops

@@ -3,7 +3,8 @@ ghost use Rattle.std.specs.Prelude.{◌≡◌, ◌≢◌, ◌<◌, ◌≤◌, []
 ghost use Rattle.std.specs.Io.KnownBytes.{Appends};
 ghost use Rattle.cg_io.specs.Faults.{Rose};
 ghost use Rattle.rv_isa.specs.Encoding.{IsInst, IsUnsigned20};
-ghost use Rattle.rv_mach.specs.State.{start, zeros, fresh, a7, register, registers_with};
+ghost use Rattle.rv_mach.specs.State.{start, zeros, fresh, register, registers_with};
+ghost use Rattle.rv_isa.specs.Registers.{a7};
 ghost use Rattle.rv_mach.specs.Step.{put, instruction, act, sum_of, called, step, settled, executed, upper_immediate};
 ghost use Rattle.rv_mach.specs.Run.{run_of, IsAtPut, IsCutOff};
 ghost use Rattle.rv_mach.specs.Effects.{effect_of, IsPut};

@@ -1,6 +1,6 @@
 use Rattle.std.proofs.Common.{rules}
 use Rattle.std.proofs.KnownBytes.{Appends-kept}
-use Rattle.cg_io.proofs.ToldLemmas.{AppendsPrefix-take, Appends-take-add}
+use Rattle.cg_io.proofs.ToldLemmas.{AppendsProperPrefix-take, Appends-take-add}
 use Rattle.cg_io.proofs.whole.write_all.Goals as goal
 
 pub loop-written-preserved : goal.loop-written-preserved
@@ -11,6 +11,7 @@ loop-written-preserved g c =
       kept = search rules;
     }
 
-pub returns-in-Err-clause-prefix : goal.returns-in-Err-clause-prefix
-returns-in-Err-clause-prefix g c =
-    AppendsPrefix-take _ _ c.loop-written.written _ (Appends-kept _ _ _ _ c.loop-written.invariant.appended c.in-Err.ensures.bytes)
+pub returns-in-Err-clause-cut_off : goal.returns-in-Err-clause-cut_off
+returns-in-Err-clause-cut_off g c =
+    AppendsProperPrefix-take _ _ c.loop-written.written _ (search rules)
+    (Appends-kept _ _ _ _ c.loop-written.invariant.appended c.in-Err.ensures.bytes)
