@@ -14,10 +14,10 @@ use Rattle.ir_syntax.specs.declared.function.Function.{Function}
 use Rattle.ir_syntax.specs.declared.module.Module.{Module}
 use Rattle.cg_built.specs.Built.{IsBuiltFunction}
 use Rattle.cg_built.specs.Definitions.{defined_functions, has_body}
-use Rattle.cg_built.specs.Built.{IsProgram}
-use Rattle.cg_built.specs.Unbuilt.{first_unbuilt, is_built_body, is_built_head, item_lines, unbuilt_by, unbuilt_in, unbuilt_lines}
+use Rattle.cg_built.specs.Unbuilt.{IsBuilt, is_built_body, is_built_head, item_lines, unbuilt_by, unbuilt_in, unbuilt_lines}
 use Rattle.cg_built.proofs.BuiltLemmas.{function_built}
 use Rattle.cg_built.proofs.DistinctNames.{defined_differ}
+use Rattle.cg_built.proofs.Programs.{IsProgram}
 use Rattle.cg_built.proofs.NoLines.{no_fault, none_joined, none_least, none_mapped}
 
 -- a function that is defined and has no line is built
@@ -86,16 +86,14 @@ no_lines m none =
       count = repeated.1;
     }
 
-pub is_program : (m : Module) → first_unbuilt m ≡ None → IsProgram m
+pub is_program : (m : Module) → IsBuilt m → IsProgram m
 is_program m none =
     let lines = no_lines m (none_least (unbuilt_lines m) none) in
     let built = all_built m.functions lines.functions in
     record {
-      built = record {
-        globals = none_mapped (λ g. g.line) m.globals lines.variables;
-        functions = All-from_recursion IsBuiltFunction (defined_functions m) built;
-        aliases = none_mapped (λ a. a.line) m.aliases lines.aliases;
-      };
+      globals = none_mapped (λ g. g.line) m.globals lines.variables;
+      functions = All-from_recursion IsBuiltFunction (defined_functions m) built;
+      aliases = none_mapped (λ a. a.line) m.aliases lines.aliases;
       differ = defined_differ m.functions built lines.names;
       few = is_few m lines.count;
     }

@@ -1,7 +1,5 @@
--- The functions that are built today.
-use Rattle.std.specs.Prelude.{◌≡◌, ◌≤◌, ◌&&◌, ◌⊎◌, ℕ, Bool, not, Option, Some, None, IsSome, List, [], ◌∷◌, length, map, All, IsTrue}
-use Rattle.std.specs.List.{IsDistinct}
-use Rattle.std.specs.Str.{bytes_eq}
+-- The form of a function that is built. It follows from the tests of `Unbuilt`, and the code of the function is made by it.
+use Rattle.std.specs.Prelude.{◌≡◌, ◌≤◌, ◌&&◌, ◌⊎◌, ℕ, Bool, not, Option, Some, None, IsSome, List, [], ◌∷◌, length, All, IsTrue}
 use Rattle.ir_syntax.specs.Literals.{literal_value}
 use Rattle.ir_ident.specs.Names.{name_bytes}
 use Rattle.ir_syntax.specs.Types.{TextTree, int}
@@ -14,12 +12,10 @@ use Rattle.ir_syntax.specs.declared.function.Function.{Function}
 use Rattle.ir_syntax.specs.declared.function.Param.{Param}
 use Rattle.ir_syntax.specs.declared.linkage.Linkage.TheVariants.{External}
 use Rattle.ir_syntax.specs.declared.linkage.Visibility.TheVariants.{Default}
-use Rattle.ir_syntax.specs.declared.module.Module.{Module}
 use Rattle.ir_check.specs.Reserved.{is_reserved}
 use Rattle.rv_isa.specs.Encoding.{IsSigned12}
 use Rattle.rv_isa.specs.Symbol.{is_bare}
 use Rattle.cg_built.specs.Params.{place_of}
-use Rattle.cg_built.specs.Definitions.{defined_functions}
 
 -- a name that the assembly writes without quotes, and that a definition may have
 abbrev pub is_built_name : List ℕ → Bool
@@ -77,17 +73,5 @@ pub record IsBuiltFunction (f : Function) : Type 0 where
   pub body : IsBuiltBody f.params f.blocks
   pub typed : IsTypedBody f.result f.blocks
 
--- a module whose definitions are such functions; its types and declarations have no text
-pub record IsBuilt (m : Module) : Type 0 where
-  pub globals : m.globals ≡ []
-  pub functions : All IsBuiltFunction (defined_functions m)
-  pub aliases : m.aliases ≡ []
-
 abbrev pub function_name : Function → List ℕ
 function_name f = name_bytes f.name
-
--- a module of the built set that defines at most 4,096 functions, whose names differ
-pub record IsProgram (m : Module) : Type 0 where
-  pub built : IsBuilt m
-  pub differ : IsDistinct bytes_eq (map function_name (defined_functions m))
-  pub few : length (defined_functions m) ≤ 4096

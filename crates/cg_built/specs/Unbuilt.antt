@@ -1,5 +1,5 @@
 -- What of a module is not built today, by its lines.
-use Rattle.std.specs.Prelude.{ℕ, ◌&&◌, ◌||◌, ◌==◌, Bool, true, false, not, nat_le, is_some, min, Option, None, Some, List, [], ◌∷◌, ◌++◌, length, map, if◌then◌else◌}
+use Rattle.std.specs.Prelude.{◌≡◌, ℕ, ◌&&◌, ◌||◌, ◌==◌, Bool, true, false, not, nat_le, is_some, min, Option, None, Some, List, [], ◌∷◌, ◌++◌, length, map, if◌then◌else◌}
 use Rattle.std.specs.List.{flat_map, list_all, reduce}
 use Rattle.ir_check.specs.Limits.{exceeded_limit}
 use Rattle.ir_check.specs.Repeated.{repeated_lines}
@@ -98,3 +98,7 @@ unbuilt_lines m =
 -- the first of these lines; none where all is built
 abbrev pub first_unbuilt : Module → Option ℕ
 first_unbuilt m = reduce min (unbuilt_lines m)
+
+-- a module of which all is built
+abbrev pub IsBuilt : Module → Type 0
+IsBuilt m = first_unbuilt m ≡ None

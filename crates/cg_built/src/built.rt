@@ -1,8 +1,7 @@
 //! What of a module is not built.
-ghost use Rattle.std.specs.Prelude.{◌≡◌, ◌++◌, None, [], IfOk, OnOk, is_some, min, if◌then◌else◌};
+ghost use Rattle.std.specs.Prelude.{◌≡◌, ◌++◌, [], IfOk, OnOk, is_some, min, if◌then◌else◌};
 ghost use Rattle.std.specs.List.{reduce};
 ghost use Rattle.ir_check.specs.Limits.{exceeded_limit};
-ghost use Rattle.cg_built.specs.Built.{IsProgram};
 ghost use Rattle.cg_built.specs.Unbuilt.{first_unbuilt, item_lines, unbuilt_lines};
 
 mod body;
@@ -21,8 +20,7 @@ use std::alloc::{AllocError, Global};
 /// other than scalars; types without a size; and names that are defined a second time. Of a module that exceeds a limit
 /// nothing is built.
 pub fn unbuilt(alloc: Global, m: &Module) -> Result<Option<u32>, AllocError>
-    ensures line { IfOk result (λ line. line ≡ first_unbuilt m.now) }
-    ensures program { IfOk result (λ line. line ≡ None → IsProgram m.now) }
+    ensures { IfOk result (λ line. line ≡ first_unbuilt m.now) }
 {
     let lines = unbuilt_lines(alloc, m)?;
     Ok(least(&lines))

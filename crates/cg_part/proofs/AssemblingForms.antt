@@ -12,7 +12,7 @@ use Rattle.rv_isa.specs.declared.inst.Inst.{Inst}
 use Rattle.cg_built.specs.Built.{IsBuiltFunction, is_built_name}
 use Rattle.cg_part.specs.Code.{function_code}
 use Rattle.cg_built.specs.Built.{function_name}
-use Rattle.cg_part.specs.Program.{code_forms, function_forms, head_forms, part_forms}
+use Rattle.cg_part.proofs.Objects.{code_forms, function_forms, head_forms, part_forms}
 use Rattle.cg_part.proofs.InstructionLemmas.{IsOfUsed, code_holds}
 use Rattle.cg_built.proofs.BareNames.{bare_bytes, name_is_bare, name_not_reserved}
 use Rattle.cg_part.proofs.NameLemmas.{no_label_read}

@@ -9,11 +9,11 @@ use Rattle.asm_read.specs.declared.refusal.AsmRefusal.TheVariants.{Line as Refus
 use Rattle.asm_read.proofs.AssemblyLemmas.{assembly_once, never_refused}
 use Rattle.ir_syntax.specs.declared.module.Module.{Module}
 use Rattle.rv_isa.specs.declared.inst.Line.{Line}
-use Rattle.cg_part.specs.Allowed.{Assembles}
+use Rattle.cg_part.specs.Linking.{Assembles}
 use Rattle.cg_built.specs.Built.{IsBuiltFunction}
 use Rattle.cg_built.specs.Definitions.{defined_functions}
-use Rattle.cg_built.specs.Built.{IsProgram}
-use Rattle.cg_part.specs.Program.{part_forms, part_object}
+use Rattle.cg_built.proofs.Programs.{IsProgram}
+use Rattle.cg_part.proofs.Objects.{part_forms, part_object}
 use Rattle.cg_part.specs.Text.{part_text}
 use Rattle.cg_part.proofs.AssemblingForms.{part_allowed}
 use Rattle.cg_part.proofs.AssemblingNames.{part_passed}
@@ -23,7 +23,7 @@ use Rattle.cg_part.proofs.AssemblingText.{text_said}
 
 pub part_assembles : (m : Module) → IsProgram m → Assembles (part_text m) (part_object m)
 part_assembles m program =
-    let allowed = part_allowed (defined_functions m) (recursion_from_All IsBuiltFunction (defined_functions m) program.built.functions) in (
+    let allowed = part_allowed (defined_functions m) (recursion_from_All IsBuiltFunction (defined_functions m) program.functions) in (
       part_forms (defined_functions m),
       record {
         spelled = text_said m;
@@ -49,9 +49,12 @@ one_object forms one other first second =
     ∙ ap (λ symbols. object_with other.words symbols one.needs) (first.has_symbols ∙ sym second.has_symbols)
     ∙ ap (λ needs. object_with other.words other.symbols needs) (first.has_no_needs ∙ sym second.has_no_needs)
 
--- and it assembles to no other object
+-- a text assembles to one object at most
+pub assembled_once : (text : List ℕ) (one other : Object) → Assembles text one → Assembles text other → one ≡ other
+assembled_once text one other first second =
+    one_object second.0 one other
+    (subst (λ forms. IsObjectOf forms one) (assembly_once text first.0 second.0 first.1 second.1) first.2) second.2
+
+-- that of a module to the module's object
 pub part_assembles_once : (m : Module) (object : Object) → IsProgram m → Assembles (part_text m) object → object ≡ part_object m
-part_assembles_once m object program other =
-    let mine = part_assembles m program in
-    one_object mine.0 object (part_object m)
-    (subst (λ forms. IsObjectOf forms object) (assembly_once (part_text m) other.0 mine.0 other.1 mine.1) other.2) mine.2
+part_assembles_once m object program other = assembled_once (part_text m) object (part_object m) other (part_assembles m program)

@@ -12,7 +12,7 @@ use Rattle.ir_syntax.specs.declared.function.Function.{Function}
 use Rattle.rv_isa.specs.declared.inst.Inst.{Inst}
 use Rattle.cg_part.specs.Code.{function_code}
 use Rattle.cg_built.specs.Built.{function_name}
-use Rattle.cg_part.specs.Program.{code_forms, part_forms}
+use Rattle.cg_part.proofs.Objects.{code_forms, part_forms}
 use Rattle.cg_part.proofs.AssemblingPassed.{ArePassed, readings}
 
 code_defines : (q : List ℕ) (code : List Inst) (rest : List Form) →

@@ -15,7 +15,7 @@ use Rattle.rv_isa.specs.declared.inst.Line.TheVariants.{Plain}
 use Rattle.cg_part.specs.Code.{function_code}
 use Rattle.cg_built.specs.Definitions.{defined_functions}
 use Rattle.cg_built.specs.Built.{function_name}
-use Rattle.cg_part.specs.Program.{code_forms, part_code, part_forms, part_object, part_symbols}
+use Rattle.cg_part.proofs.Objects.{code_forms, part_code, part_forms, part_object, part_symbols}
 use Rattle.cg_part.proofs.AssemblingNames.{all_marked}
 
 code_words : (code : List Inst) (rest : List Form) → words (code_forms code ++ rest) ≡ map (λ i. Plain i) code ++ words rest

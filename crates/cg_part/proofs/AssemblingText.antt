@@ -9,7 +9,7 @@ use Rattle.rv_isa.specs.Text.{instruction_line}
 use Rattle.rv_isa.specs.declared.inst.Inst.{Inst}
 use Rattle.cg_part.specs.Code.{function_code}
 use Rattle.cg_built.specs.Definitions.{defined_functions}
-use Rattle.cg_part.specs.Program.{code_forms, function_forms, part_forms}
+use Rattle.cg_part.proofs.Objects.{code_forms, function_forms, part_forms}
 use Rattle.cg_part.specs.Text.{function_lines, head_lines, part_lines, part_text, symbol_of}
 
 code_said : (code : List Inst) → map instruction_line code ≡ map form_line (code_forms code)

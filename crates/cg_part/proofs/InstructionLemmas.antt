@@ -18,8 +18,9 @@ use Rattle.rv_isa.specs.Encoding.{IsInst, IsSigned12}
 use Rattle.rv_isa.specs.Text.{is_zero}
 use Rattle.rv_isa.specs.declared.inst.Inst.{Inst}
 use Rattle.cg_built.specs.Built.{IsBuiltFunction, IsBuiltBody, IsBuiltOperand, IsBuiltTerm}
-use Rattle.cg_part.specs.Code.{addi, move, return, copies, argument_code, constant_code, code_at, operand_code, term_code, body_code, function_code}
-use Rattle.cg_part.specs.Program.{part_code}
+use Rattle.cg_part.specs.Code.{copies, argument_code, constant_code, code_at, operand_code, term_code, body_code, function_code}
+use Rattle.rv_isa.specs.Instructions.{addi, mv, ret}
+use Rattle.cg_part.proofs.Objects.{part_code}
 
 inside_of : (place count : ℕ) → IfSome (cond (nat_lt place count) (Some place) None) (λ p. p < count)
 inside_of place count = grind (arith, nat_tests, cases_lt place count)
@@ -30,20 +31,20 @@ position_inside test params = inside_of (position_or_len test params) (length pa
 -- what holds of each instruction that is used
 pub record IsOfUsed (P : Inst → Type 0) : Type 0 where
   pub load : (rd : ℕ) (imm : ℤ) → rd < 32 → IsSigned12 imm → P (addi rd 0 imm)
-  pub copy : (rd rs : ℕ) → rd < 32 → 0 < rs → rs < 32 → P (move rd rs)
-  pub back : P return
+  pub copy : (rd rs : ℕ) → rd < 32 → 0 < rs → rs < 32 → P (mv rd rs)
+  pub back : P ret
 
 module _ (P : Inst → Type 0) (used : IsOfUsed P) where
   copies_hold : (rd first count : ℕ) → rd < 32 → first + count ≤ 8 → All P (copies rd first count)
   copies_hold rd first zero low within = All-nil P
   copies_hold rd first (suc count) low within =
-      All-cons P (move rd (10 + first)) (copies rd (first + 1) count) (used.copy rd (10 + first) low (omega arith) (omega arith))
+      All-cons P (mv rd (10 + first)) (copies rd (first + 1) count) (used.copy rd (10 + first) low (omega arith) (omega arith))
       (copies_hold rd (first + 1) count low (omega arith))
 
-  end_holds : All P (move 10 5 ∷ return ∷ [])
+  end_holds : All P (mv 10 5 ∷ ret ∷ [])
   end_holds =
-      All-cons P (move 10 5) (return ∷ []) (used.copy 10 5 (omega arith) (omega arith) (omega arith))
-      (All-cons P return [] used.back (All-nil P))
+      All-cons P (mv 10 5) (ret ∷ []) (used.copy 10 5 (omega arith) (omega arith) (omega arith))
+      (All-cons P ret [] used.back (All-nil P))
 
   argument_holds : (count place : ℕ) → place < count → count ≤ 8 → All P (argument_code count place)
   argument_holds count place inside few =
@@ -52,18 +53,18 @@ module _ (P : Inst → Type 0) (used : IsOfUsed P) where
       (copies_hold 6 (place + 1) (count - (place + 1)) (omega arith) (omega arith)))
       end_holds
 
-  value_holds : (zero : Bool) (value : ℤ) → IsSigned12 value → All P (cond zero (addi 10 0 (pos 0) ∷ []) (addi 5 0 value ∷ move 10 5 ∷ []))
+  value_holds : (zero : Bool) (value : ℤ) → IsSigned12 value → All P (cond zero (addi 10 0 (pos 0) ∷ []) (addi 5 0 value ∷ mv 10 5 ∷ []))
   value_holds true value held =
       All-cons P (addi 10 0 (pos 0)) [] (used.load 10 (pos 0) (omega arith) (omega arith, omega arith)) (All-nil P)
   value_holds false value held =
-      All-cons P (addi 5 0 value) (move 10 5 ∷ []) (used.load 5 value (omega arith) held)
-      (All-cons P (move 10 5) [] (used.copy 10 5 (omega arith) (omega arith) (omega arith)) (All-nil P))
+      All-cons P (addi 5 0 value) (mv 10 5 ∷ []) (used.load 5 value (omega arith) held)
+      (All-cons P (mv 10 5) [] (used.copy 10 5 (omega arith) (omega arith) (omega arith)) (All-nil P))
 
   constant_holds : (count : ℕ) (value : ℤ) → count ≤ 8 → IsSigned12 value → All P (constant_code count value)
   constant_holds count value few held =
       All-append P _ _
       (All-append P _ _ (copies_hold 5 0 count (omega arith) (omega arith)) (value_holds (is_zero value) value held))
-      (All-cons P return [] used.back (All-nil P))
+      (All-cons P ret [] used.back (All-nil P))
 
   code_at_holds : (count : ℕ) (place : Option ℕ) → IfSome place (λ p. p < count) → count ≤ 8 → All P (code_at count place)
   code_at_holds count (Some place) inside few = argument_holds count place inside few
@@ -90,10 +91,10 @@ module _ (P : Inst → Type 0) (used : IsOfUsed P) where
 pub addi_formed : (rd rs1 : ℕ) (imm : ℤ) → rd < 32 → rs1 < 32 → IsSigned12 imm → IsInst (addi rd rs1 imm)
 addi_formed rd rs1 imm low_rd low_rs1 held = record { rd = low_rd; rs1 = low_rs1; rs2 = omega arith; row = (refl, held) }
 
-pub move_formed : (rd rs1 : ℕ) → rd < 32 → rs1 < 32 → IsInst (move rd rs1)
+pub move_formed : (rd rs1 : ℕ) → rd < 32 → rs1 < 32 → IsInst (mv rd rs1)
 move_formed rd rs1 low_rd low_rs1 = addi_formed rd rs1 (pos 0) low_rd low_rs1 (omega arith, omega arith)
 
-pub return_formed : IsInst return
+pub return_formed : IsInst ret
 return_formed = record { rd = omega arith; rs1 = omega arith; rs2 = omega arith; row = (refl, (omega arith, omega arith)) }
 
 used_formed : IsOfUsed IsInst

@@ -7,14 +7,18 @@ pub mod AssemblingPassed
 pub mod AssemblingText
 pub mod CodeLemmas
 pub mod InstructionLemmas
+pub mod LinkingImage
 pub mod LinkingLists
 pub mod LinkingMain
 pub mod LinkingNames
 pub mod LinkingProgram
 pub mod LinkingSizes
 pub mod LinkingWords
+pub mod Mains
 pub mod NameLemmas
+pub mod Objects
 pub mod PlaceLemmas
+pub mod Programs
 pub mod QuietLines
 pub mod ResolvingLemmas
 pub mod RunningCode
@@ -24,5 +28,4 @@ pub mod RunningSteps
 pub mod RunningValues
 pub mod RunningWords
 pub mod Splitting
-pub mod Tables
 pub mod TextLemmas

@@ -8,7 +8,8 @@ use Rattle.ir_syntax.specs.declared.module.Module.{Module}
 use Rattle.cg_part.specs.Code.{function_code}
 use Rattle.cg_built.specs.Definitions.{defined_functions, has_body}
 use Rattle.cg_part.specs.Meaning.{IsMain}
-use Rattle.cg_part.specs.Program.{part_code}
+use Rattle.cg_part.proofs.Mains.{main_has_body}
+use Rattle.cg_part.proofs.Objects.{part_code}
 
 -- a list around an element
 pub record Around {A : Type 0} (xs : List A) (x : A) : Type 0 where
@@ -34,7 +35,7 @@ among_passing test xs x among passes =
 
 -- so `main` is among the functions that are defined
 pub main_defined : (m : Module) (f : Function) → IsMain m f → Contains (defined_functions m) f
-main_defined m f main = among_passing has_body m.functions f main.among main.defined
+main_defined m f main = among_passing has_body m.functions f main.among (main_has_body m f main)
 
 -- what holds of each element holds of one among them
 pub at_middle : {A B : Type 0} (P : B → Type 0) (g : A → B) (front back : List A) (x : A) →

@@ -11,14 +11,16 @@ use Rattle.ir_syntax.specs.declared.function.Function.{Function}
 use Rattle.ir_syntax.specs.declared.module.Module.{Module}
 use Rattle.rv_isa.specs.Encoding.{IsSigned12}
 use Rattle.cg_built.specs.Built.{IsBuiltFunction, IsBuiltBlock, IsBuiltBody, IsBuiltTerm, IsTypedBody, GivesType}
-use Rattle.cg_part.specs.Code.{return, value_code, term_code, body_code, function_code}
+use Rattle.cg_part.specs.Code.{value_code, term_code, body_code, function_code}
+use Rattle.rv_isa.specs.Instructions.{ret}
 use Rattle.cg_part.specs.Meaning.{IsMain, Returns, term_value, value_at, wrapped}
+use Rattle.cg_part.proofs.Mains.{main_params, main_result}
 
 -- a function whose code loads a constant and returns, and that returns the constant as an i32
 pub record ReturnsConstant (f : Function) : Type 0 where
   pub value : ℤ
   pub signed : IsSigned12 value
-  pub code : function_code f ≡ value_code value ++ return ∷ []
+  pub code : function_code f ≡ value_code value ++ ret ∷ []
   pub returns : Returns f [] (wrapped 32 value)
 
 module _ (f : Function) (none : f.params ≡ []) where
@@ -52,5 +54,6 @@ module _ (f : Function) (none : f.params ≡ []) where
 
 pub main_code : (m : Module) (f : Function) → IsBuiltFunction f → IsMain m f → ReturnsConstant f
 main_code m f built main =
-    by_body f main.params f.blocks refl (subst (λ params. IsBuiltBody params f.blocks) main.params built.body)
-    (subst (λ result. IsTypedBody result f.blocks) main.result built.typed)
+    let none : f.params ≡ [] = main_params m f built main in
+    by_body f none f.blocks refl (subst (λ params. IsBuiltBody params f.blocks) none built.body)
+    (subst (λ result. IsTypedBody result f.blocks) (main_result m f main) built.typed)

@@ -1,6 +1,6 @@
--- A program's objects define each name once, and all that they need.
-use Rattle.std.proofs.Common.{◌≡◌, ◌+◌, ◌++◌, ◌∷◌, [], ℕ, List, Bool, true, false, cond, not, ◌&&◌, ◌||◌, refl, ap, sym, ◌∙◌, subst, codes, length, map, filter}
-use Rattle.std.specs.List.{list_any, AllByRecursion as ByRecursion}
+-- A program's objects define each name once.
+use Rattle.std.proofs.Common.{◌≡◌, ◌+◌, ◌++◌, ◌∷◌, [], ℕ, List, Bool, true, false, cond, ◌&&◌, ◌||◌, refl, ap, sym, ◌∙◌, codes, length, map, filter}
+use Rattle.std.specs.List.{AllByRecursion as ByRecursion}
 use Rattle.std.specs.Str.{bytes_eq}
 use Rattle.std.proofs.lemmas.List.Elements.{recursion_from_All}
 use Rattle.std.proofs.lemmas.Slice.Eq.{bytes_eq-Decides}
@@ -8,16 +8,15 @@ use Rattle.asm_read.specs.declared.object.ObjectSymbol.{ObjectSymbol}
 use Rattle.ir_check.specs.Reserved.{is_reserved}
 use Rattle.ir_syntax.specs.declared.function.Function.{Function}
 use Rattle.ir_syntax.specs.declared.module.Module.{Module}
-use Rattle.obj_link.specs.Cause.{IsResolved}
-use Rattle.obj_link.specs.Names.{is_global, defines_global, duplicates}
+use Rattle.obj_link.specs.Names.{is_global, duplicates}
 use Rattle.obj_link.specs.Runtime.{runtime}
 use Rattle.cg_built.specs.Built.{IsBuiltFunction}
 use Rattle.cg_part.specs.Code.{function_code}
 use Rattle.cg_built.specs.Definitions.{defined_functions}
-use Rattle.cg_part.specs.Meaning.{IsMain}
-use Rattle.cg_built.specs.Built.{IsProgram, function_name}
-use Rattle.cg_part.specs.Program.{part_object, part_symbols, program_objects}
-use Rattle.cg_part.proofs.LinkingLists.{around, main_defined}
+use Rattle.cg_built.specs.Built.{function_name}
+use Rattle.cg_built.proofs.Programs.{IsProgram}
+use Rattle.cg_part.proofs.Objects.{part_symbols}
+use Rattle.cg_part.proofs.Programs.{program_objects}
 use Rattle.cg_built.proofs.BareNames.{name_not_reserved}
 use Rattle.cg_part.proofs.NameLemmas.{free_differs}
 
@@ -56,32 +55,7 @@ none_again before (f ∷ functions) built =
     (free_of_runtime (function_name f) (name_not_reserved (function_name f) built.0.name))
     (none_again (before + length (function_code f)) functions built.1)
 
-true_later : (b : Bool) → (b || true) ≡ true
-true_later true = refl
-true_later false = refl
-
--- the symbols of functions define the name of each
-named_global : (before : ℕ) (front back : List Function) (f : Function) →
-    list_any (λ s. s.global && bytes_eq s.name (function_name f)) (part_symbols before (front ++ f ∷ back)) ≡ true
-named_global before [] back f =
-    ap (λ t. t || list_any (λ s. s.global && bytes_eq s.name (function_name f)) (part_symbols (before + length (function_code f)) back))
-    (same (function_name f) (function_name f) refl)
-named_global before (g ∷ front) back f =
-    ap (λ t. bytes_eq (function_name g) (function_name f) || t) (named_global (before + length (function_code g)) front back f)
-    ∙ true_later (bytes_eq (function_name g) (function_name f))
-
-defines_main : (m : Module) (f : Function) → IsMain m f → defines_global (part_object m) (codes "main") ≡ true
-defines_main m f main =
-    let place = around (defined_functions m) f (main_defined m f main) in
-    subst (λ name. list_any (λ s. s.global && bytes_eq s.name name) (part_symbols 0 (defined_functions m)) ≡ true) main.named
-    (subst (λ functions. list_any (λ s. s.global && bytes_eq s.name (function_name f)) (part_symbols 0 functions) ≡ true) (sym place.is)
-    (named_global 0 place.front place.back f))
-
 -- no name is defined twice, also where there is no `main`
 pub part_differs : (m : Module) → IsProgram m → duplicates (program_objects m) ≡ []
 part_differs m program =
-    ap (λ again. map (λ s. s.name) again ++ []) (none_again 0 (defined_functions m) (recursion_from_All IsBuiltFunction (defined_functions m) program.built.functions))
-
-pub part_resolves : (m : Module) (f : Function) → IsProgram m → IsMain m f → IsResolved (program_objects m)
-part_resolves m f program main =
-    (part_differs m program, ap (λ t. cond (not (t || false)) (codes "main" ∷ []) [] ++ []) (defines_main m f main))
+    ap (λ again. map (λ s. s.name) again ++ []) (none_again 0 (defined_functions m) (recursion_from_All IsBuiltFunction (defined_functions m) program.functions))

@@ -6,7 +6,7 @@ use Rattle.std.specs.Str.{bytes_eq}
 use Rattle.std.proofs.lemmas.List.{append-nil}
 use Rattle.ir_syntax.specs.declared.function.Function.{Function}
 use Rattle.ir_syntax.specs.declared.module.Module.{Module}
-use Rattle.obj_link.specs.Layout.{low_64, addressed, globals}
+use Rattle.obj_link.specs.Layout.{low_64, addressed, globals, image_size}
 use Rattle.obj_link.specs.Words.{line_word, address_of, image_words}
 use Rattle.obj_link.specs.Runtime.{runtime}
 use Rattle.obj_link.specs.declared.image.SymbolAddress.{SymbolAddress}
@@ -16,8 +16,11 @@ use Rattle.rv_isa.specs.declared.inst.Line.TheVariants.{Plain}
 use Rattle.cg_part.specs.Code.{function_code}
 use Rattle.cg_built.specs.Definitions.{defined_functions}
 use Rattle.cg_part.specs.Meaning.{IsMain}
-use Rattle.cg_built.specs.Built.{IsProgram, function_name}
-use Rattle.cg_part.specs.Program.{part_code, part_object, part_symbols, program_objects, runtime_code}
+use Rattle.cg_built.specs.Built.{function_name}
+use Rattle.cg_built.proofs.Programs.{IsProgram}
+use Rattle.cg_part.proofs.Mains.{main_named}
+use Rattle.cg_part.proofs.Objects.{part_code, part_object, part_symbols}
+use Rattle.cg_part.proofs.Programs.{program_objects, runtime_code}
 use Rattle.cg_part.proofs.LinkingLists.{around, at_middle, code_around, main_defined}
 use Rattle.cg_part.proofs.LinkingNames.{same}
 use Rattle.cg_part.proofs.LinkingSizes.{part_fits}
@@ -64,7 +67,7 @@ found before (g ∷ front) back f distinct =
     ∙ ap (λ n. Some (named_at name n)) place
 
 -- a number below 2^64 stands for itself
-placed : (n : ℕ) → n ≤ 49152 → low_64 (pos part_begin +ℤ pos (4 * (0 + n))) ≡ 0x10000 + 48 + 4 * n
+placed : (n : ℕ) → n ≤ 16777204 → low_64 (pos part_begin +ℤ pos (4 * (0 + n))) ≡ 0x10000 + 48 + 4 * n
 placed n fits = omega arith
 
 -- the words of code that waits for no address
@@ -95,24 +98,24 @@ words_by m address is small =
 
 -- the address of `main`, by the functions before it
 main_address : (m : Module) (f : Function) (front back : List Function) → IsProgram m → IsMain m f → defined_functions m ≡ front ++ f ∷ back →
-    length (part_code front) ≤ 49152 →
+    length (part_code front) ≤ 16777204 →
     address_among (codes "main") (addressed_symbols 0 (defined_functions m)) ≡ 0x10000 + 48 + 4 * length (part_code front)
 main_address m f front back program main is fits =
     let distinct = subst (λ functions. IsDistinct bytes_eq (map function_name functions)) is program.differ in
-    ap₂ (λ name functions. address_among name (addressed_symbols 0 functions)) (sym main.named) is
+    ap₂ (λ name functions. address_among name (addressed_symbols 0 functions)) (sym (main_named m f main)) is
     ∙ ap (λ symbol. unwrap_or (option_map (λ s. s.address) symbol) 0) (found 0 front back f distinct)
     ∙ placed (length (part_code front)) fits
 
-pub part_words : (m : Module) (f : Function) → IsProgram m → IsMain m f → HasMain m f
-part_words m f program main =
+pub part_words : (m : Module) (f : Function) → IsProgram m → IsMain m f → image_size (program_objects m) ≤ 67108864 → HasMain m f
+part_words m f program main fitting =
     let place = around (defined_functions m) f (main_defined m f main) in
     let front : List Inst = part_code place.front in
     let back : List Inst = part_code place.back in
     let code : part_code (defined_functions m) ≡ front ++ (function_code f ++ back) = ap part_code place.is ∙ code_around place.front place.back f in
     let whole : length (part_code (defined_functions m)) ≡ length (front ++ (function_code f ++ back)) = ap length code in
     let parts = length-append front (function_code f ++ back) in
-    let all = part_fits m program in
-    let fits : length front ≤ 49152 = omega arith in
+    let all = part_fits m fitting in
+    let fits : length front ≤ 16777204 = omega arith in
     let small : 0x10000 + 48 + 4 * length front < 2 ^ 30 = omega arith in
     record {
       address = 0x10000 + 48 + 4 * length front;

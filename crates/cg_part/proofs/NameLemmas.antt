@@ -6,7 +6,7 @@ use Rattle.std.proofs.lemmas.Bool.{and_from, and_parts, both_ways, false_from_ne
 use Rattle.asm_read.specs.Forms.{IsLabel, is_number}
 use Rattle.ir_check.specs.Reserved.{begins_digit, begins_with, is_label_name, is_reserved}
 use Rattle.rv_isa.specs.Symbol.{is_digit}
-use Rattle.cg_part.specs.Resolving.{front_of, is_label, is_number_pair}
+use Rattle.cg_part.specs.Resolving.{leading, is_label, is_number_pair}
 
 -- a name that is not reserved differs from each that is
 pub free_differs : (name other : List ℕ) → is_reserved name ≡ false → is_reserved other ≡ true → name ≡ other → ⊥
@@ -29,11 +29,11 @@ no_label_read name free (f, b, is, number, last) =
     both_ways (is_label_name name) (free_of_labels name free)
     (subst (λ n. is_label_name n ≡ true) (sym is) (number_begins f (95 ∷ b) number))
 
-digits_begin : (bytes : List ℕ) → is_number (front_of is_digit bytes) ≡ true → begins_digit bytes ≡ true
+digits_begin : (bytes : List ℕ) → is_number (leading is_digit bytes) ≡ true → begins_digit bytes ≡ true
 digits_begin [] number = number
 digits_begin (b ∷ bytes) number = by_test (is_digit b) number
   where
-    by_test : (t : Bool) → is_number (cond t (b ∷ front_of is_digit bytes) []) ≡ true → t ≡ true
+    by_test : (t : Bool) → is_number (cond t (b ∷ leading is_digit bytes) []) ≡ true → t ≡ true
     by_test true number = refl
     by_test false number = number
 
@@ -41,6 +41,6 @@ digits_begin (b ∷ bytes) number = by_test (is_digit b) number
 pub no_label_in_line : (name : List ℕ) → is_reserved name ≡ false → is_label name ≡ false
 no_label_in_line name free = false_from_ne_true (is_label name) (λ label.
     (let parts = and_parts (begins_with (codes ".LBB") name) (is_number_pair (drop 4 name)) label in
-    let digits : is_number (front_of is_digit (drop 4 name)) ≡ true = (and_parts _ _ (and_parts _ _ parts.1).0).0 in
+    let digits : is_number (leading is_digit (drop 4 name)) ≡ true = (and_parts _ _ (and_parts _ _ parts.1).0).0 in
     both_ways (is_label_name name) (free_of_labels name free)
     (and_from (begins_with (codes ".LBB") name) (begins_digit (drop 4 name)) parts.0 (digits_begin (drop 4 name) digits))))

@@ -18,10 +18,11 @@ use Rattle.rv_isa.specs.Lines.{text_of_lines}
 use Rattle.rv_isa.specs.Symbol.{is_bare, is_digit, is_symbol_byte}
 use Rattle.rv_isa.specs.Text.{instruction_line}
 use Rattle.rv_isa.specs.declared.inst.Inst.{Inst}
-use Rattle.cg_built.specs.Built.{IsBuilt, IsBuiltFunction, is_built_name}
+use Rattle.cg_built.specs.Built.{IsBuiltFunction, is_built_name}
+use Rattle.cg_built.proofs.Programs.{IsProgram}
 use Rattle.cg_part.specs.Code.{function_code}
 use Rattle.cg_built.specs.Definitions.{defined_functions}
-use Rattle.cg_part.specs.Resolving.{Resolves, defined_in, needed_in, after_percent, one_symbol, symbol_at, front_of, quoted_front, is_label, symbols_of, needs_of, defined_symbols}
+use Rattle.cg_part.specs.Resolving.{Resolves, defined_in, needed_in, after_percent, one_symbol, symbol_at, leading, quoted_prefix, is_label, symbols_of, needs_of, defined_symbols}
 use Rattle.cg_part.specs.Text.{function_lines, head_lines, part_lines, part_text, symbol_of}
 use Rattle.cg_part.proofs.InstructionLemmas.{code_formed}
 use Rattle.cg_built.proofs.BareNames.{bare_bytes, bare_first, name_is_bare, name_not_reserved, name_spelled}
@@ -57,11 +58,11 @@ code_holds [] formed = holds_none
 code_holds (i ∷ code) formed = holds-quiet (instruction_line i) (map instruction_line code) [] (instruction_quiet i formed.0) (code_holds code formed.1)
 
 -- the front of symbol bytes ends at a colon
-front-colon : (bytes : List ℕ) → list_all is_symbol_byte bytes ≡ true → front_of is_symbol_byte (bytes ++ 58 ∷ []) ≡ bytes
+front-colon : (bytes : List ℕ) → list_all is_symbol_byte bytes ≡ true → leading is_symbol_byte (bytes ++ 58 ∷ []) ≡ bytes
 front-colon [] all = refl
 front-colon (b ∷ bytes) all =
     let parts = and_parts (is_symbol_byte b) (list_all is_symbol_byte bytes) all in
-    ap (λ t. cond t (b ∷ front_of is_symbol_byte (bytes ++ 58 ∷ [])) []) parts.0 ∙ ap (λ front. b ∷ front) (front-colon bytes parts.1)
+    ap (λ t. cond t (b ∷ leading is_symbol_byte (bytes ++ 58 ∷ [])) []) parts.0 ∙ ap (λ front. b ∷ front) (front-colon bytes parts.1)
 
 -- a byte that stands in no symbol differs from each that does
 differs : (b c : ℕ) → is_symbol_byte c ≡ false → is_symbol_byte b ≡ true → b ≡ c → ⊥
@@ -100,8 +101,8 @@ begins b bytes bare =
 symbol_at-colon : (b : ℕ) (bytes : List ℕ) → Begins b → list_all is_symbol_byte (b ∷ bytes) ≡ true → symbol_at ((b ∷ bytes) ++ 58 ∷ []) ≡ b ∷ bytes
 symbol_at-colon b bytes first all =
     let rest : List ℕ = bytes ++ 58 ∷ [] in
-    let front : List ℕ = front_of is_symbol_byte (b ∷ rest) in
-    ap (λ t. cond t (b ∷ quoted_front false rest) (cond (is_digit b) [] front)) first.quote
+    let front : List ℕ = leading is_symbol_byte (b ∷ rest) in
+    ap (λ t. cond t (b ∷ quoted_prefix false rest) (cond (is_digit b) [] front)) first.quote
     ∙ ap (λ t. cond t [] front) first.digit
     ∙ front-colon (b ∷ bytes) all
 
@@ -191,7 +192,7 @@ resolves_by m text symbols needs = record {
       absurd (omega (arith, none.1));
 }
 
-pub text_resolves : (m : Module) → IsBuilt m → Resolves m (part_text m ∷ [])
+pub text_resolves : (m : Module) → IsProgram m → Resolves m (part_text m ∷ [])
 unfolding part_text
 text_resolves m built =
     let functions : List Function = defined_functions m in

@@ -9,8 +9,9 @@ use Rattle.rv_mach.specs.Layout.{fetched}
 use Rattle.obj_link.specs.Words.{high_part, line_word, moved}
 use Rattle.obj_link.specs.Runtime.{runtime_words}
 use Rattle.std.specs.Prelude.{codes}
-use Rattle.cg_part.specs.Code.{addi}
-use Rattle.cg_part.specs.Program.{load_high, call_low, environment_call, start_code, host_code, runtime_code}
+use Rattle.rv_isa.specs.Instructions.{addi}
+use Rattle.cg_part.proofs.Programs.{load_high, call_low, start_code, host_code, runtime_code}
+use Rattle.rv_isa.specs.Instructions.{ecall}
 use Rattle.cg_part.proofs.InstructionLemmas.{addi_formed, move_formed, return_formed}
 
 -- an image has these instructions, the first of them at an address
@@ -34,7 +35,7 @@ call_formed rd address low =
     let signed = extended-12 (address % 0x1000) (omega arith) in
     record { rd = low; rs1 = low; rs2 = omega arith; row = (refl, signed.0) }
 
-pub ecall_formed : IsInst environment_call
+pub ecall_formed : IsInst ecall
 ecall_formed = record { rd = omega arith; rs1 = omega arith; rs2 = omega arith; row = (refl, refl, refl, refl) }
 
 -- loads the number of an environment call into a7

@@ -4,8 +4,9 @@ use Rattle.std.proofs.lemmas.List.{map-append, length-map}
 use Rattle.rv_isa.specs.Encoding.{IsInst, IsSigned12, encoded}
 use Rattle.rv_isa.specs.Format.{low_bits}
 use Rattle.rv_isa.specs.declared.inst.Inst.{Inst}
-use Rattle.cg_part.specs.Code.{return, value_code}
-use Rattle.cg_part.specs.Program.{start_code, host_code, runtime_code}
+use Rattle.cg_part.specs.Code.{value_code}
+use Rattle.rv_isa.specs.Instructions.{ret}
+use Rattle.cg_part.proofs.Programs.{start_code, host_code, runtime_code}
 use Rattle.cg_part.proofs.InstructionLemmas.{constant_formed}
 use Rattle.cg_part.proofs.RunningCode.{HasCode, start_formed}
 use Rattle.cg_part.proofs.RunningMain.{main_runs}
@@ -38,10 +39,10 @@ program_has target address before code after place formed =
 -- `main` lies after the runtime and the functions before it, and the program exits with the constant
 pub program_runs : (input : List ℕ) (address : ℕ) (before after : List Inst) (value : ℤ) → IsSigned12 value
     → address ≡ 0x10030 + 4 * length before → address < 2 ^ 30
-    → ExitsAfter (bytes_of (program_words address (before ++ ((value_code value ++ return ∷ []) ++ after)))) input
+    → ExitsAfter (bytes_of (program_words address (before ++ ((value_code value ++ ret ∷ []) ++ after)))) input
     (length (value_code value) + 6) (low_bits 64 value % 2 ^ 32)
 program_runs input address before after value signed place small =
-    let functions = before ++ ((value_code value ++ return ∷ []) ++ after) in
+    let functions = before ++ ((value_code value ++ ret ∷ []) ++ after) in
     main_runs (bytes_of (program_words address functions)) input address value signed (omega arith) small
     (program_starts address functions)
-    (program_has address address before (value_code value ++ return ∷ []) after place (constant_formed 0 value (omega arith) signed))
+    (program_has address address before (value_code value ++ ret ∷ []) after place (constant_formed 0 value (omega arith) signed))

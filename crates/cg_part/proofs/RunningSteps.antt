@@ -5,8 +5,9 @@ use Rattle.rv_isa.specs.Encoding.{IsInst, encoded}
 use Rattle.rv_isa.specs.declared.inst.Inst.{Inst}
 use Rattle.rv_isa.proofs.Table.{decoded-encoded}
 use Rattle.rv_mach.specs.Layout.{fetched, stack_start}
-use Rattle.rv_mach.specs.Run.{Shown, shown, run_of, machine_run}
-use Rattle.rv_mach.specs.State.{State, fresh, start, sp, register}
+use Rattle.rv_mach.specs.Run.{Behaviour, behaviour, run_of, machine_run}
+use Rattle.rv_mach.specs.State.{State, fresh, start, register}
+use Rattle.rv_isa.specs.Registers.{sp}
 use Rattle.rv_mach.specs.Step.{act, settled, step}
 use Rattle.rv_mach.specs.declared.stop.Stop.{Stop}
 use Rattle.rv_mach.specs.declared.stop.Stop.TheVariants.{Exited, Running}
@@ -14,7 +15,7 @@ use Rattle.rv_mach.proofs.Runs.{run_of-zero, run_of-suc, run_of-ended}
 use Rattle.rv_mach.proofs.Steps.{instruction-at, step-at}
 
 -- a machine shows that it stands so, and has put nothing
-abbrev pub quiet : Stop → Shown
+abbrev pub quiet : Stop → Behaviour
 quiet stop = record { stop = stop; output = [] }
 
 -- after some steps a machine stands so, and until then it ran and put nothing
@@ -48,7 +49,7 @@ module _ (image input : List ℕ) where
   pub stands_at_start : Stands image input 0 (start image)
   stands_at_start =
       let here = run_of-zero input (start image) in
-      record { here = here; before = λ n within. (let none : n ≡ 0 = omega arith in ap (machine_run image input) none ∙ ap shown here) }
+      record { here = here; before = λ n within. (let none : n ≡ 0 = omega arith in ap (machine_run image input) none ∙ ap behaviour here) }
 
   pub stands_next : (steps : ℕ) (m next : State) (i : Inst) → Stands image input steps m → IsAt m i
       → settled (act input i m) [] ≡ fresh next → next.stop ≡ Running → Stands image input (suc steps) next
@@ -57,7 +58,7 @@ module _ (image input : List ℕ) where
       record {
         here = here;
         before = λ n within. one_more (λ k. machine_run image input k ≡ quiet Running) steps stands.before
-            (ap shown here ∙ ap quiet running) n (cases_lt n (suc steps)) within;
+            (ap behaviour here ∙ ap quiet running) n (cases_lt n (suc steps)) within;
       }
 
   pub exits_next : (steps code : ℕ) (m : State) (i : Inst) → Stands image input steps m → IsAt m i
@@ -68,6 +69,6 @@ module _ (image input : List ℕ) where
       record {
         runs = stands.before;
         exits = λ n after.
-            ap shown (sym (run_of-ended input (suc steps) n (start image) last (sym (ap (λ r. r.machine) here)) (λ e. cc) (omega arith)))
-            ∙ ap shown here;
+            ap behaviour (sym (run_of-ended input (suc steps) n (start image) last (sym (ap (λ r. r.machine) here)) (λ e. cc) (omega arith)))
+            ∙ ap behaviour here;
       }

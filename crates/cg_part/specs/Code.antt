@@ -12,37 +12,26 @@ use Rattle.ir_syntax.specs.declared.function.Param.{Param}
 use Rattle.cg_built.specs.Params.{place_of}
 use Rattle.rv_isa.specs.Text.{is_zero}
 use Rattle.rv_isa.specs.declared.inst.Inst.{Inst}
-use Rattle.rv_isa.specs.declared.inst.Op.TheVariants.{Addi, Jalr}
-
--- adds a constant to a register
-abbrev pub addi : ℕ → ℕ → ℤ → Inst
-addi rd rs1 imm = record { op = Addi; rd = rd; rs1 = rs1; rs2 = 0; imm = imm }
-
--- copies a register
-abbrev pub move : ℕ → ℕ → Inst
-move rd rs1 = addi rd rs1 (pos 0)
-
--- goes back to the caller: jumps to ra, which is x1
-abbrev pub return : Inst
-return = record { op = Jalr; rd = 0; rs1 = 1; rs2 = 0; imm = pos 0 }
+use Rattle.rv_isa.specs.Instructions.{li, mv, ret}
+use Rattle.rv_isa.specs.Registers.{a0, t0, t1}
 
 -- count argument registers from the given one on, each copied into rd; a0 is x10
 abbrev pub copies : ℕ → ℕ → ℕ → List Inst
-copies rd first count = map (λ i. move rd (10 + i)) (range_with_len first count)
+copies rd first count = map (λ i. mv rd (a0 + i)) (range_with_len first count)
 
 -- Of count arguments the one at a place is returned. t0, which is x5, has it after the copies up to it,
 -- and those after it go into t1, which is x6.
 abbrev pub argument_code : ℕ → ℕ → List Inst
 argument_code count place =
-    copies 5 0 (place + 1) ++ copies 6 (place + 1) (count - (place + 1)) ++ move 10 5 ∷ return ∷ []
+    copies t0 0 (place + 1) ++ copies t1 (place + 1) (count - (place + 1)) ++ mv a0 t0 ∷ ret ∷ []
 
 -- a constant goes into a0, by way of t0; 0 needs no register of its own
 abbrev pub value_code : ℤ → List Inst
-value_code value = if is_zero value then addi 10 0 (pos 0) ∷ [] else addi 5 0 value ∷ move 10 5 ∷ []
+value_code value = if is_zero value then li a0 (pos 0) ∷ [] else li t0 value ∷ mv a0 t0 ∷ []
 
 -- a constant is returned
 abbrev pub constant_code : ℕ → ℤ → List Inst
-constant_code count value = copies 5 0 count ++ value_code value ++ return ∷ []
+constant_code count value = copies t0 0 count ++ value_code value ++ ret ∷ []
 
 abbrev pub code_at : ℕ → Option ℕ → List Inst
 code_at count (Some place) = argument_code count place

@@ -1,6 +1,6 @@
 pub mod Allowed
 pub mod Code
+pub mod Linking
 pub mod Meaning
-pub mod Program
 pub mod Resolving
 pub mod Text

@@ -1,8 +1,9 @@
 -- What a module of functions that return a constant or an argument means: the runs of its `main`
 -- (LangRef, "Functions", "'ret' Instruction" and "Simple Constants").
-use Rattle.std.specs.Prelude.{◌≡◌, ◌+◌, ◌-◌, ◌%◌, ◌^◌, ℕ, ℤ, pos, negsuc, zero, suc, Option, Some, None, is_some, true, List, [], ◌∷◌, codes, if◌then◌else◌, Contains}
+use Rattle.std.specs.Prelude.{◌≡◌, ◌+◌, ◌-◌, ◌%◌, ◌^◌, ℕ, ℤ, pos, negsuc, zero, suc, Option, Some, None, true, List, [], ◌∷◌, map, if◌then◌else◌, Contains}
 use Rattle.ir_syntax.specs.Literals.{literal_value}
-use Rattle.ir_ident.specs.Names.{name_bytes, same_name}
+use Rattle.cg_built.specs.Main.{is_main, fits_main}
+use Rattle.ir_ident.specs.Names.{same_name}
 use Rattle.ir_syntax.specs.Types.{TextTree, int}
 use Rattle.ir_syntax.specs.declared.block.Block.{Block}
 use Rattle.ir_syntax.specs.declared.operand.Operand.{Operand}
@@ -13,6 +14,7 @@ use Rattle.ir_syntax.specs.declared.function.Function.{Function}
 use Rattle.ir_syntax.specs.declared.function.Param.{Param}
 use Rattle.ir_syntax.specs.declared.module.Module.{Module}
 use Rattle.ir_ident.specs.declared.name.Name.{Name}
+use Rattle.obj_link.specs.declared.image.SymbolAddress.{SymbolAddress}
 
 -- a whole number as a value of this many bits
 abbrev pub wrapped : ℕ → ℤ → ℕ
@@ -50,41 +52,45 @@ pub record Returns (f : Function) (arguments : List ℕ) (value : ℕ) : Type 0 
   pub instrs : block.instrs ≡ []
   pub returned : term_value f.params arguments block.term ≡ Some value
 
--- a function that is defined as `main`, without parameters, and gives an i32
+-- a `main` of the module, of a type that a run can call
 pub record IsMain (m : Module) (f : Function) : Type 0 where
   pub among : Contains m.functions f
-  pub defined : is_some f.blocks ≡ true
-  pub named : name_bytes f.name ≡ codes "main"
-  pub result : f.result ≡ Some (int 32)
-  pub params : f.params ≡ []
+  pub is : is_main f ≡ true
+  pub fits : fits_main f ≡ true
 
--- how a run stands: it goes on, it ended with a code, it was trapped, or its behaviour is undefined
+-- what it is called with: 0, and null
+abbrev pub main_arguments : Function → List ℕ
+main_arguments f = map (λ p. 0) f.params
+
+-- the end of a run: none yet, an exit with a code, a trap, or undefined behaviour
 pub data End : Type 0 where
   going : End
   ended : ℕ → End
   trapped : End
   undefined : End
 
--- a run so far: how it stands, the bytes that it put, and how many segments it has begun
+-- a run so far: its end, the input that is left, the output, and how many segments it has begun
 pub record Config : Type 0 where
   pub end : End
+  pub input : List ℕ
   pub output : List ℕ
   pub begun : ℕ
 
--- `main` was called, and nothing is done
-abbrev pub opening : Config
-opening = record { end = going; output = []; begun = 0 }
+-- `main` was called with this input, and nothing is done
+abbrev pub opening : List ℕ → Config
+opening input = record { end = going; input = input; output = []; begun = 0 }
 
--- one instruction: the `ret` of `main`, which ends the run with the low 32 bits of what it returns
-pub record Steps (m : Module) (before after : Config) : Type 0 where
-  pub goes : before.end ≡ going
+-- One instruction, where symbols have these addresses: the `ret` of `main`, which ends the run with the low 32
+-- bits of what it returns. It takes no input, puts nothing, and looks at no address.
+pub record Steps (m : Module) (addresses : List (List SymbolAddress)) (before after : Config) : Type 0 where
+  pub is_going : before.end ≡ going
   pub main : Function
   pub is_main : IsMain m main
   pub value : ℕ
-  pub returns : Returns main [] value
-  pub is : after ≡ record { end = ended (value % 2 ^ 32); output = before.output; begun = before.begun + 1 }
+  pub returns : Returns main (main_arguments main) value
+  pub is : after ≡ record before { end = ended (value % 2 ^ 32); begun = before.begun + 1 }
 
--- a run of n instructions from the opening
-abbrev pub IsRun : Module → ℕ → Config → Type 0
-IsRun m zero config = config ≡ opening
-IsRun m (suc n) config = (before : Config) × IsRun m n before × Steps m before config
+-- a run of n instructions from the opening, at symbol addresses and on an input
+abbrev pub IsRun : Module → List (List SymbolAddress) → List ℕ → ℕ → Config → Type 0
+IsRun m addresses input zero config = config ≡ opening input
+IsRun m addresses input (suc n) config = (before : Config) × IsRun m addresses input n before × Steps m addresses before config

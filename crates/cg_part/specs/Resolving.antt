@@ -1,4 +1,4 @@
--- The symbols that a text defines, shows to others and needs, read off its lines, and when texts resolve.
+-- The symbols that a text defines, exports and uses, read off its lines, and when texts resolve.
 -- A symbol is given as it is spelled.
 use Rattle.std.specs.Prelude.{◌≡◌, ◌==◌, ◌&&◌, ℕ, Bool, true, false, not, nat_eq, bytes_eq, List, [], ◌∷◌, ◌⊎◌, drop, length, codes, map, flat_map, count_by, Contains, if◌then◌else◌}
 use Rattle.std.specs.List.{starts_with, list_any}
@@ -9,34 +9,34 @@ use Rattle.asm_read.specs.Forms.{is_number}
 use Rattle.cg_built.specs.Definitions.{declared_functions, defined_functions}
 use Rattle.cg_part.specs.Text.{symbol_of}
 
--- the front of bytes that pass a test
-abbrev pub front_of : (ℕ → Bool) → List ℕ → List ℕ
-front_of test [] = []
-front_of test (b ∷ bytes) = if test b then b ∷ front_of test bytes else []
+-- the bytes up to the first that fails a test
+abbrev pub leading : (ℕ → Bool) → List ℕ → List ℕ
+leading test [] = []
+leading test (b ∷ bytes) = if test b then b ∷ leading test bytes else []
 
--- what stands after that front
-abbrev pub after_front : (ℕ → Bool) → List ℕ → List ℕ
-after_front test [] = []
-after_front test (b ∷ bytes) = if test b then after_front test bytes else b ∷ bytes
+-- and those from it on
+abbrev pub after_leading : (ℕ → Bool) → List ℕ → List ℕ
+after_leading test [] = []
+after_leading test (b ∷ bytes) = if test b then after_leading test bytes else b ∷ bytes
 
 -- The bytes up to the quote that ends a symbol. One after a backslash ends none.
-abbrev pub quoted_front : Bool → List ℕ → List ℕ
-quoted_front escape [] = []
-quoted_front true (b ∷ bytes) = b ∷ quoted_front false bytes
-quoted_front false (b ∷ bytes) = if b == 34 then b ∷ [] else b ∷ quoted_front (b == 92) bytes
+abbrev pub quoted_prefix : Bool → List ℕ → List ℕ
+quoted_prefix escape [] = []
+quoted_prefix true (b ∷ bytes) = b ∷ quoted_prefix false bytes
+quoted_prefix false (b ∷ bytes) = if b == 34 then b ∷ [] else b ∷ quoted_prefix (b == 92) bytes
 
--- the symbol at the front of a text, empty where none begins there
+-- the symbol that a text begins with, empty where it begins with none
 abbrev pub symbol_at : List ℕ → List ℕ
 symbol_at [] = []
 symbol_at (b ∷ bytes) =
-    if b == 34 then b ∷ quoted_front false bytes
+    if b == 34 then b ∷ quoted_prefix false bytes
     else if is_digit b then []
-    else front_of is_symbol_byte (b ∷ bytes)
+    else leading is_symbol_byte (b ∷ bytes)
 
 -- two numbers with `_` between them
 abbrev pub is_number_pair : List ℕ → Bool
-is_number_pair bytes = is_number (front_of is_digit bytes) && starts_with nat_eq (after_front is_digit bytes) (codes "_")
-    && is_number (drop 1 (after_front is_digit bytes))
+is_number_pair bytes = is_number (leading is_digit bytes) && starts_with nat_eq (after_leading is_digit bytes) (codes "_")
+    && is_number (drop 1 (after_leading is_digit bytes))
 
 -- a label within a function
 abbrev pub is_label : List ℕ → Bool
@@ -54,9 +54,9 @@ defined_in line =
     else if bytes_eq (drop (length (symbol_at line)) line) (codes ":") && not (is_label (symbol_at line)) then one_symbol (symbol_at line)
     else []
 
--- the symbol that a line shows to other texts
-abbrev pub shown_in : List ℕ → List (List ℕ)
-shown_in line = if starts_with nat_eq line (codes "\t.globl\t") then one_symbol (symbol_at (drop 8 line)) else []
+-- the symbol that a line exports
+abbrev pub exported_in : List ℕ → List (List ℕ)
+exported_in line = if starts_with nat_eq line (codes "\t.globl\t") then one_symbol (symbol_at (drop 8 line)) else []
 
 -- the symbol behind the first `%hi(` or `%lo(`
 abbrev pub after_percent : List ℕ → List (List ℕ)
@@ -75,7 +75,7 @@ abbrev pub symbols_of : List ℕ → List (List ℕ)
 symbols_of text = flat_map defined_in (pieces_of text)
 
 abbrev pub globals_of : List ℕ → List (List ℕ)
-globals_of text = flat_map shown_in (pieces_of text)
+globals_of text = flat_map exported_in (pieces_of text)
 
 abbrev pub needs_of : List ℕ → List (List ℕ)
 needs_of text = flat_map needed_in (pieces_of text)

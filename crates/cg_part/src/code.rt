@@ -4,23 +4,14 @@ ghost use Rattle.ir_syntax.specs.Literals.{literal_value};
 ghost use Rattle.rv_isa.specs.Encoding.{IsInst, IsSigned12};
 ghost use Rattle.rv_isa.specs.Text.{is_zero};
 ghost use Rattle.cg_built.specs.Built.{IsBuiltFunction, IsBuiltBody, IsBuiltOperand, IsBuiltTerm};
-ghost use Rattle.cg_part.specs.Code.{addi, move, return, copies, argument_code, value_code, constant_code, code_at, operand_code, term_code, body_code, function_code};
+ghost use Rattle.cg_part.specs.Code.{copies, argument_code, value_code, constant_code, code_at, operand_code, term_code, body_code, function_code};
 ghost use Rattle.cg_built.specs.Params.{place_of};
 
 use cg_built::place_among;
 use ir_ident::Name;
 use ir_syntax::{Block, Blocks, Function, Literal, Operand, Param, Term};
-use rv_isa::{Inst, Op};
+use rv_isa::{A0, Inst, T0, T1};
 use std::alloc::{AllocError, Global};
-
-/// x1, which holds the return address.
-const RA: u8 = 1;
-/// x5, the first temporary.
-const T0: u8 = 5;
-/// x6, the second temporary.
-const T1: u8 = 6;
-/// x10, the first argument and the result.
-const A0: u8 = 10;
 
 /// The code of a function of the built set.
 pub fn code_of(alloc: Global, function: &Function) -> Result<Vec<Inst>, AllocError>
@@ -112,8 +103,8 @@ fn push_argument(code: &mut Vec<Inst>, count: u8, place: u8) -> Result<(), Alloc
 {
     push_copies(code, T0, 0, place + 1)?;
     push_copies(code, T1, place + 1, count)?;
-    code.push(add_immediate(A0, T0, 0))?;
-    code.push(return_to_caller())?;
+    code.push(Inst::mv(A0, T0))?;
+    code.push(Inst::ret())?;
     Ok(())
 }
 
@@ -124,7 +115,7 @@ fn push_constant(code: &mut Vec<Inst>, count: u8, value: i64) -> Result<(), Allo
 {
     push_copies(code, T0, 0, count)?;
     push_value(code, value)?;
-    code.push(return_to_caller())?;
+    code.push(Inst::ret())?;
     Ok(())
 }
 
@@ -132,10 +123,10 @@ fn push_value(code: &mut Vec<Inst>, value: i64) -> Result<(), AllocError>
     ensures { OnOk result (code.new.items ≡ code.old.items ++ value_code value) }
 {
     if value == 0 {
-        code.push(add_immediate(A0, 0, 0))?;
+        code.push(Inst::li(A0, 0))?;
     } else {
-        code.push(add_immediate(T0, 0, value))?;
-        code.push(add_immediate(A0, T0, 0))?;
+        code.push(Inst::li(T0, value))?;
+        code.push(Inst::mv(A0, T0))?;
     }
     Ok(())
 }
@@ -147,31 +138,7 @@ fn push_copies(code: &mut Vec<Inst>, rd: u8, first: u8, end: u8) -> Result<(), A
     ensures { OnOk result (code.new.items ≡ code.old.items ++ copies rd first (end - first)) }
 {
     for place in first..end {
-        code.push(add_immediate(rd, A0 + place, 0))?;
+        code.push(Inst::mv(rd, A0 + place))?;
     }
     Ok(())
-}
-
-fn add_immediate(rd: u8, rs1: u8, imm: i64) -> Inst
-    ensures { result ≡ addi rd rs1 imm }
-{
-    Inst {
-        op: Op::Addi,
-        rd,
-        rs1,
-        rs2: 0,
-        imm,
-    }
-}
-
-fn return_to_caller() -> Inst
-    ensures { result ≡ return }
-{
-    Inst {
-        op: Op::Jalr,
-        rd: 0,
-        rs1: RA,
-        rs2: 0,
-        imm: 0,
-    }
 }

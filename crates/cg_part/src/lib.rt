@@ -2,9 +2,11 @@
 #![tactic(auto)]
 
 mod code;
+mod laws;
 mod print;
 mod program;
 mod text;
 
+pub use laws::{runs_are_allowed, texts_have_one_image};
 pub use program::program_of;
 pub use text::text_of;

@@ -6,22 +6,8 @@ ghost use Rattle.rv_isa.specs.Lines.{ended};
 ghost use Rattle.rv_isa.specs.Text.{register, instruction_line, spelled_as, spelled_line, based, is_zero};
 
 use itoa::Buffer;
-use rv_isa::{Inst, Op};
+use rv_isa::{Inst, Op, register_name};
 use std::alloc::AllocError;
-
-/// The registers by their names in the calling convention, `x0` first.
-const REGISTER_NAMES: [&str; 32] = [
-    "zero", "ra", "sp", "gp", "tp", "t0", "t1", "t2", "s0", "s1", "a0", "a1", "a2", "a3", "a4",
-    "a5", "a6", "a7", "s2", "s3", "s4", "s5", "s6", "s7", "s8", "s9", "s10", "s11", "t3", "t4",
-    "t5", "t6",
-];
-
-fn register_name(number: u8) -> &'static str
-    requires { number < 32 }
-    ensures { result.now ≡ register number }
-{
-    REGISTER_NAMES[number as usize]
-}
 
 /// Writes an instruction's line, in its short form where it has one.
 pub fn push_instruction(out: &mut Vec<u8>, inst: Inst) -> Result<(), AllocError>

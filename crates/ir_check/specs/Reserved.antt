@@ -1,14 +1,14 @@
 -- Names that no item of a module may have.
 use Rattle.std.specs.Prelude.{ℕ, Bool, false, ◌&&◌, ◌||◌, nat_eq, List, [], ◌∷◌, bytes_eq, codes, drop}
 use Rattle.std.specs.List.{starts_with}
-use Rattle.rv_isa.specs.Symbol.{is_digit}
+use Rattle.std.specs.Char.{is_ascii_digit}
 
 abbrev pub begins_with : List ℕ → List ℕ → Bool
 begins_with front name = starts_with nat_eq name front
 
 abbrev pub begins_digit : List ℕ → Bool
 begins_digit [] = false
-begins_digit (b ∷ bytes) = is_digit b
+begins_digit (b ∷ bytes) = is_ascii_digit b
 
 -- the labels of the blocks in the assembly begin so: no function, variable or alias does, defined or declared
 abbrev pub is_label_name : List ℕ → Bool

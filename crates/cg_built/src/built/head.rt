@@ -5,10 +5,11 @@ ghost use Rattle.ir_ident.specs.Names.{name_bytes};
 ghost use Rattle.cg_built.specs.Built.{is_built_name};
 ghost use Rattle.cg_built.specs.Unbuilt.{bits_of, is_built_head, is_default, is_external, is_32_or_64};
 
+use crate::linkage::{is_default, is_external};
 use crate::symbol::bytes_of;
 use asm_read::is_bare;
 use ir_check::is_reserved;
-use ir_syntax::{Function, Linkage, Param, TyText, TypeTree, Visibility};
+use ir_syntax::{Function, Param, TyText, TypeTree};
 
 /// The most parameters that have registers.
 const ARGUMENT_LIMIT: usize = 8;
@@ -33,18 +34,6 @@ fn is_seen(function: &Function) -> bool
     is_external(function.linkage)
         & is_default(function.visibility)
         & is_built_name(bytes_of(&function.name))
-}
-
-fn is_external(linkage: Linkage) -> bool
-    ensures { result ≡ is_external linkage }
-{
-    matches!(linkage, Linkage::External)
-}
-
-fn is_default(visibility: Visibility) -> bool
-    ensures { result ≡ is_default visibility }
-{
-    matches!(visibility, Visibility::Default)
 }
 
 fn is_built_name(name: &[u8]) -> bool

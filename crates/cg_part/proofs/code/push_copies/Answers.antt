@@ -6,4 +6,4 @@ pub loop-place-preserved : goal.loop-place-preserved
 loop-place-preserved c =
     let before : c.args.first ≤ c.loop-place.place = omega arith in
     c.in_ok-push.ensures.items
-    ∙ copies_more c.args.rd c.args.first c.loop-place.place c.args.code.now.items _ _ before c.loop-place.invariant c.add_immediate.ensures
+    ∙ copies_more c.args.rd c.args.first c.loop-place.place c.args.code.now.items _ _ before c.loop-place.invariant c.mv.ensures
