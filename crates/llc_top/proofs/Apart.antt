@@ -1,27 +1,29 @@
 -- No text is both accepted and refused, and what is written is what the module allows.
-use Rattle.std.proofs.Common.{◌≡◌, ◌≤◌, ℕ, Bool, true, false, Option, Some, None, List, [], ◌∷◌, length, refl, sym, ap, ◌∙◌, subst, arith, ◌&&◌, ◌||◌}
+use Rattle.std.proofs.Common.{◌≡◌, ◌+◌, ◌≤◌, ℕ, Bool, true, false, Option, Some, None, List, [], ◌∷◌, length, inl, inr, refl, sym, ap, ◌∙◌, subst, arith, ◌&&◌, ◌||◌}
 use Rattle.std.specs.List.{list_any}
-use Rattle.std.specs.Io.KnownBytes.{Appends, Consumes}
+use Rattle.std.specs.Io.KnownBytes.{Consumes}
 use Rattle.std.proofs.Math.Logic.{⊎_elim}
-use Rattle.std.proofs.lemmas.Bool.{and_parts, both_ways, or_cases}
+use Rattle.std.proofs.lemmas.Bool.{and_parts, or_cases}
 use Rattle.std.proofs.lemmas.List.{length-append}
 use Rattle.cg_io.specs.Told.{GivesAll, TakesExactly}
 use Rattle.cg_io.proofs.ToldLemmas.{GivesAll-told}
-use Rattle.cg_part.proofs.AllowedLemmas.{program_allowed, program_shows}
-use Rattle.cg_built.specs.Built.{IsProgram}
-use Rattle.cg_part.proofs.AssemblingLemmas.{part_assembles}
-use Rattle.cg_part.proofs.LinkingNames.{part_differs, part_resolves}
-use Rattle.cg_part.proofs.ResolvingLemmas.{text_resolves}
-use Rattle.cg_built.proofs.UnbuiltLemmas.{is_program}
+use Rattle.cg_built.proofs.Programs.{IsProgram}
 use Rattle.cg_built.specs.Unbuilt.{first_unbuilt}
+use Rattle.cg_built.proofs.UnbuiltLemmas.{is_program}
+use Rattle.cg_part.specs.Text.{part_text}
+use Rattle.cg_part.proofs.AllowedLemmas.{image_allowed, program_allowed}
+use Rattle.cg_part.proofs.LinkingImage.{image_excludes}
+use Rattle.cg_part.proofs.ResolvingLemmas.{text_resolves}
 use Rattle.ir_read.proofs.OneAnswer.{reads_excludes, reads_unique}
 use Rattle.ir_syntax.specs.declared.function.Function.{Function}
 use Rattle.ir_syntax.specs.declared.module.Module.{Module}
 use Rattle.ir_syntax.specs.declared.refusal.Refusal.{Refusal}
-use Rattle.ir_syntax.specs.declared.refusal.Refusal.TheVariants as refusals
+use Rattle.obj_link.specs.declared.image.Image.{Image}
 use Rattle.llc_top.specs.Exact.{IsExact, Serves, Compiled, Ran}
-use Rattle.llc_top.specs.Main.{defines_main, has_main, is_defined_main, fits_main}
-use Rattle.llc_top.specs.Outcome.{Outcome, words_refused, read_failed, refuses, compiles, runs, status_of, out_due, err_due, HasReason, Answers, IsAccepted, IsFirstRefusal, TakesModule, TakesRefused}
+use Rattle.cg_built.specs.Main.{defines_main, has_main, is_main, fits_main}
+use Rattle.llc_top.specs.Outcome.{Outcome, words_refused, read_failed, refuses, compiles, runs, status_of, out_due, err_due, HasReason, Answers, TakesModule, TakesProgram, TakesRefused}
+use Rattle.llc_top.specs.Refusals.{IsAccepted, IsFirstRefusal, IsModuleRefusal, IsRunRefusal, text_limit}
+use Rattle.llc_top.specs.Streams.{SourceChange, SinkChange, TellsAll}
 use Rattle.llc_words.specs.Commands.{Command, command_of}
 use Rattle.llc_words.specs.declared.types.Mode.{Mode}
 use Rattle.llc_words.specs.declared.types.Mode.TheVariants as modes
@@ -42,59 +44,58 @@ too_long left left' bytes n told takes =
 given : (left left' : Option (List ℕ)) (bytes all : List ℕ) → left ≡ Some bytes → GivesAll left left' all → all ≡ bytes
 given left left' bytes all told gave = GivesAll-told bytes left' all (subst (λ l. GivesAll l left' all) told gave)
 
--- two modules of one text are one, and so have the same main
-same_main : (bytes : List ℕ) (m k : Module) → IsAccepted bytes m → IsAccepted bytes k → has_main m ≡ has_main k
-same_main bytes m k one other = ap has_main (reads_unique bytes m k one.reads other.reads)
-
-same_defined : (bytes : List ℕ) (m k : Module) → IsAccepted bytes m → IsAccepted bytes k → defines_main m ≡ defines_main k
-same_defined bytes m k one other = ap defines_main (reads_unique bytes m k one.reads other.reads)
-
 or_later : (a b : Bool) → b ≡ true → (a || b) ≡ true
 or_later true b later = refl
 or_later false b later = later
 
 -- a module that has a main defines one
-main_defined : (functions : List Function) → list_any (λ f. is_defined_main f && fits_main f) functions ≡ true → list_any is_defined_main functions ≡ true
+main_defined : (functions : List Function) → list_any (λ f. is_main f && fits_main f) functions ≡ true → list_any is_main functions ≡ true
 main_defined [] has = has
 main_defined (f ∷ functions) has =
     ⊎_elim
-    (λ here. ap (λ t. t || list_any is_defined_main functions) (and_parts (is_defined_main f) (fits_main f) here).0)
-    (λ later. or_later (is_defined_main f) (list_any is_defined_main functions) (main_defined functions later))
-    (or_cases (is_defined_main f && fits_main f) (list_any (λ g. is_defined_main g && fits_main g) functions) has)
+    (λ here. ap (λ t. t || list_any is_main functions) (and_parts (is_main f) (fits_main f) here).0)
+    (λ later. or_later (is_main f) (list_any is_main functions) (main_defined functions later))
+    (or_cases (is_main f && fits_main f) (list_any (λ g. is_main g && fits_main g) functions) has)
 
--- to run a module it has a main
-serves_run : (mode : Mode) (m : Module) → mode ≡ modes.Run → Serves mode m → has_main m ≡ true
-serves_run modes.Compile m is serves = absurd (cc)
-serves_run modes.Run m is serves = serves
+-- to run a module it has a main, and its text links
+serves_run : (mode : Mode) (m : Module) → mode ≡ modes.Run → Serves mode m → Serves modes.Run m
+serves_run mode m is serves = subst (λ a. Serves a m) is serves
+
+same_value : (a b c : Bool) → a ≡ b → a ≡ c → b ≡ c
+same_value a b c first second = sym first ∙ second
+
+true_false : true ≡ false → ⊥
+true_false e = cc
+
+-- a module that can be run is not refused to be
+run_apart : (m : Module) (e : Refusal) → Serves modes.Run m → IsRunRefusal m e → ⊥
+run_apart m e (has, image, linked) (inl (inl (none, is))) = true_false (same_value (defines_main m) true false (main_defined m.functions has) none)
+run_apart m e (has, image, linked) (inl (inr (defined, none, is))) = true_false (same_value (has_main m) true false has none)
+run_apart m e (has, image, linked) (inr (also, (why, unlinked, some, is))) = some (image_excludes (part_text m ∷ []) image why linked unlinked)
+
+none_some : (found : Option ℕ) (line : ℕ) → found ≡ None → found ≡ Some line → ⊥
+none_some found line none some = absurd (cc)
+
+module_apart : (mode : Mode) (m : Module) (e : Refusal) → first_unbuilt m ≡ None → Serves mode m → IsModuleRefusal mode m e → ⊥
+module_apart mode m e built serves (inl (line, unbuilt, is)) = none_some (first_unbuilt m) line built unbuilt
+module_apart mode m e built serves (inr (also, running, refused)) = run_apart m e (serves_run mode m running serves) refused
 
 -- an accepted text that serves a mode has no first refusal in it
 accepted_apart : (mode : Mode) (bytes : List ℕ) (m : Module) (refusal : Refusal) → IsAccepted bytes m → Serves mode m →
     IsFirstRefusal mode bytes refusal → ⊥
-accepted_apart mode bytes m (refusals.TooLong taken) accepted serves long = absurd (omega (arith, accepted.short, long.0))
-accepted_apart mode bytes m (refusals.Lex line) accepted serves refused =
-    reads_excludes bytes m (refusals.Lex line) accepted.reads refused.1 (λ is. cc)
-accepted_apart mode bytes m (refusals.Unsupported line word) accepted serves refused =
-    reads_excludes bytes m (refusals.Unsupported line word) accepted.reads refused.1 (λ is. cc)
-accepted_apart mode bytes m (refusals.Form line) accepted serves refused =
-    reads_excludes bytes m (refusals.Form line) accepted.reads refused.1 (λ is. cc)
-accepted_apart mode bytes m (refusals.Name line) accepted serves refused =
-    reads_excludes bytes m (refusals.Name line) accepted.reads refused.1 (λ is. cc)
-accepted_apart mode bytes m (refusals.NotYet line) accepted serves (other, short, read, is) =
-    let none : first_unbuilt other ≡ None = ap first_unbuilt (reads_unique bytes other m read accepted.reads) ∙ accepted.built in
-    let both : Some line ≡ None = sym is ∙ none in
-    cc
-accepted_apart mode bytes m refusals.NoMain accepted serves (other, is, read, none) =
-    both_ways (defines_main m) (same_defined bytes m other accepted read ∙ none) (main_defined m.functions (serves_run mode m is serves))
-accepted_apart mode bytes m refusals.BadMain accepted serves (other, is, read, defined, none) =
-    both_ways (has_main m) (same_main bytes m other accepted read ∙ none) (serves_run mode m is serves)
-accepted_apart mode bytes m refusals.NoMemory accepted serves never = never
+accepted_apart mode bytes m refusal accepted serves (inl (long, is)) = absurd (omega (arith, accepted.short, long))
+accepted_apart mode bytes m refusal accepted serves (inr (short, inl unread)) = reads_excludes bytes m refusal accepted.reads unread
+accepted_apart mode bytes m refusal accepted serves (inr (short, inr (other, read, refused))) =
+    module_apart mode m refusal accepted.built serves
+    (subst (λ k. IsModuleRefusal mode k refusal) (reads_unique bytes other m read accepted.reads) refused)
 
--- what a source that tells its bytes gave and is refused, its text is refused with
+-- what was refused of a source that tells its bytes is their first refusal
 refused_first : (mode : Mode) (left left' : Option (List ℕ)) (bytes : List ℕ) (refusal : Refusal) → left ≡ Some bytes →
     TakesRefused mode left left' refusal → IsFirstRefusal mode bytes refusal
-refused_first mode left left' bytes (refusals.TooLong taken) told takes = (omega (arith, too_long left left' bytes taken told takes.1, takes.0), takes.0)
-refused_first mode left left' bytes refusal told takes =
-    subst (λ b. IsFirstRefusal mode b refusal) (given left left' bytes takes.0 told takes.1) takes.2
+refused_first mode left left' bytes refusal told (inl (is, takes)) =
+    inl (omega (arith, too_long left left' bytes (text_limit + 1) told takes), is)
+refused_first mode left left' bytes refusal told (inr (all, gave, short, refused)) =
+    subst (λ b. IsFirstRefusal mode b refusal) (given left left' bytes all told gave) (inr (short, refused))
 
 taken_accepted : (left left' : Option (List ℕ)) (bytes : List ℕ) (m : Module) → left ≡ Some bytes → TakesModule left left' m → IsAccepted bytes m
 taken_accepted left left' bytes m told takes = subst (λ b. IsAccepted b m) (given left left' bytes takes.bytes told takes.gave) takes.accepted
@@ -106,103 +107,101 @@ one_command a b read first second = cc
 one_mode : (a b : Command) (read : Option Command) → read ≡ Some a → read ≡ Some b → a.mode ≡ b.mode
 one_mode a b read first second = ap (λ (c : Command). c.mode) (one_command a b read first second)
 
-module _ (words : List (List ℕ)) (left left' : Option (List ℕ)) (faults faults' : ℕ) (out out' err err' : Option (List ℕ)) where
-  never_refused : (command : Command) (bytes : List ℕ) (m : Module) (outcome : Outcome) → command_of words ≡ Some command → left ≡ Some bytes →
-      IsAccepted bytes m → Serves command.mode m → HasReason words left left' faults faults' outcome → status_of outcome ≡ statuses.Refused → ⊥
+module _ (words : List (List ℕ)) (src : SourceChange) (out err : SinkChange) where
+  never_refused : (command : Command) (bytes : List ℕ) (m : Module) (outcome : Outcome) → command_of words ≡ Some command → src.old_left ≡ Some bytes →
+      IsAccepted bytes m → Serves command.mode m → HasReason words src outcome → status_of outcome ≡ statuses.Refused → ⊥
   never_refused command bytes m words_refused asked told accepted serves reason is = cc
   never_refused command bytes m read_failed asked told accepted serves reason is = cc
-  never_refused command bytes m (refuses refusal) asked told accepted serves (other, is_other, takes) is =
+  never_refused command bytes m (refuses refusal) asked told accepted serves (calm, other, is_other, takes) is =
       accepted_apart command.mode bytes m refusal accepted serves
       (subst (λ a. IsFirstRefusal a bytes refusal) (one_mode other command (command_of words) is_other asked)
-      (refused_first other.mode left left' bytes refusal told takes))
+      (refused_first other.mode src.old_left src.left bytes refusal told takes))
   never_refused command bytes m (compiles other) asked told accepted serves reason is = cc
-  never_refused command bytes m (runs other m') asked told accepted serves reason is = cc
+  never_refused command bytes m (runs other image) asked told accepted serves reason is = cc
 
-  never_done : (command : Command) (bytes : List ℕ) (refusal : Refusal) (outcome : Outcome) → command_of words ≡ Some command → left ≡ Some bytes →
-      IsFirstRefusal command.mode bytes refusal → HasReason words left left' faults faults' outcome → status_of outcome ≡ statuses.Done → ⊥
+  never_done : (command : Command) (bytes : List ℕ) (refusal : Refusal) (outcome : Outcome) → command_of words ≡ Some command → src.old_left ≡ Some bytes →
+      IsFirstRefusal command.mode bytes refusal → HasReason words src outcome → status_of outcome ≡ statuses.Done → ⊥
   never_done command bytes refusal words_refused asked told refused reason is = cc
   never_done command bytes refusal read_failed asked told refused reason is = cc
   never_done command bytes refusal (refuses other) asked told refused reason is = cc
-  never_done command bytes refusal (compiles m) asked told refused (other, is_other, compiling, takes) is =
-      accepted_apart command.mode bytes m refusal (taken_accepted left left' bytes m told takes)
+  never_done command bytes refusal (compiles m) asked told refused (calm, other, is_other, compiling, takes) is =
+      accepted_apart command.mode bytes m refusal (taken_accepted src.old_left src.left bytes m told takes)
       (subst (λ a. Serves a m) (sym compiling ∙ one_mode other command (command_of words) is_other asked) tt) refused
-  never_done command bytes refusal (runs other m) asked told refused (is_other, running, takes, has) is =
-      accepted_apart command.mode bytes m refusal (taken_accepted left left' bytes m told takes)
-      (subst (λ a. Serves a m) (sym running ∙ one_mode other command (command_of words) is_other asked) has) refused
+  never_done command bytes refusal (runs other image) asked told refused (calm, is_other, running, takes) is =
+      accepted_apart command.mode bytes takes.m refusal (taken_accepted src.old_left src.left bytes takes.m told takes.takes)
+      (subst (λ a. Serves a takes.m) (sym running ∙ one_mode other command (command_of words) is_other asked)
+      (takes.has_a_main, image, takes.linked)) refused
 
   -- an answer is exact
-  pub answer_exact : (status : Status) → Answers (HasReason words left left' faults faults') status out out' err err' → IsExact words left status
+  pub answer_exact : (status : Status) → Answers (HasReason words src) status out err → IsExact words src.old_left status
   answer_exact status answer = record {
     accepted = λ command bytes m asked told accepted serves is.
-        let at = subst (λ s. Answers (HasReason words left left' faults faults') s out out' err err') is answer in
+        let at = subst (λ s. Answers (HasReason words src) s out err) is answer in
         never_refused command bytes m at.0 asked told accepted serves at.1 at.2;
     refusable = λ command bytes refusal asked told refused is.
-        let at = subst (λ s. Answers (HasReason words left left' faults faults') s out out' err err') is answer in
+        let at = subst (λ s. Answers (HasReason words src) s out err) is answer in
         never_done command bytes refusal at.0 asked told refused at.1 at.2;
   }
 
   module _ (command : Command) (asked : command_of words ≡ Some command) where
-    compiled_by : (outcome : Outcome) → command.mode ≡ modes.Compile → HasReason words left left' faults faults' outcome →
-        status_of outcome ≡ statuses.Done → Appends out out' (out_due outcome) → Compiled left left' out out'
+    compiled_by : (outcome : Outcome) → command.mode ≡ modes.Compile → HasReason words src outcome →
+        status_of outcome ≡ statuses.Done → TellsAll (out_due outcome) out → Compiled src.old_left src.left out.old_written out.written
     compiled_by words_refused compiling reason is results = absurd (cc)
     compiled_by read_failed compiling reason is results = absurd (cc)
     compiled_by (refuses refusal) compiling reason is results = absurd (cc)
-    compiled_by (compiles m) compiling (other, is_other, asks, takes) is results =
+    compiled_by (compiles m) compiling (calm, other, is_other, asks, takes) is results =
         let program : IsProgram m = is_program m takes.accepted.built in
         record {
           compiled = m;
           takes = takes;
-          wrote = results;
-          resolves = text_resolves m program.built;
-          assembled = part_assembles m program;
-          differ = part_differs m program;
-          allowed = λ has. let main = main_is m has in program_allowed m main.0 program main.1;
+          wrote = results.appended;
+          resolves = text_resolves m program;
+          allowed = program_allowed m program;
         }
-    compiled_by (runs other m) compiling (is_other, running, takes, has) is results =
+    compiled_by (runs other image) compiling (calm, is_other, running, takes) is results =
         let same : modes.Run ≡ modes.Compile = sym running ∙ one_mode other command (command_of words) is_other asked ∙ compiling in
         absurd (cc)
 
     -- what was shown with the command that was read is what the module allows
-    shown_by : (m : Module) → TakesModule left left' m → has_main m ≡ true → Appends out out' (out_due (runs command m)) →
-        Appends err err' (err_due (runs command m)) → Ran command left left' out out' err err'
-    shown_by m takes has results errors =
-        let main = main_is m has in
-        let program : IsProgram m = is_program m takes.accepted.built in
+    shown_by : (image : Image) → TakesProgram src.old_left src.left image → TellsAll (out_due (runs command image)) out →
+        TellsAll (err_due (runs command image)) err → Ran command src.old_left src.left out.old_written out.written err.old_written err.written
+    shown_by image takes results errors =
+        let main = main_is takes.m takes.has_a_main in
+        let program : IsProgram takes.m = is_program takes.m takes.takes.accepted.built in
         record {
-          compiled = m;
-          takes = takes;
-          has_a_main = has;
-          assembled = part_assembles m program;
-          resolved = part_resolves m main.0 program main.1;
-          wrote = results;
-          told = errors;
-          allowed = program_shows m main.0 program main.1 command.input command.steps;
+          compiled = takes.m;
+          image = image;
+          takes = takes.takes;
+          linked = takes.linked;
+          wrote = results.appended;
+          told = errors.appended;
+          allowed = image_allowed takes.m main.0 image program main.1 takes.linked command.input command.steps;
         }
 
-    ran_by : (outcome : Outcome) → command.mode ≡ modes.Run → HasReason words left left' faults faults' outcome →
-        status_of outcome ≡ statuses.Done → Appends out out' (out_due outcome) → Appends err err' (err_due outcome) →
-        Ran command left left' out out' err err'
+    ran_by : (outcome : Outcome) → command.mode ≡ modes.Run → HasReason words src outcome →
+        status_of outcome ≡ statuses.Done → TellsAll (out_due outcome) out → TellsAll (err_due outcome) err →
+        Ran command src.old_left src.left out.old_written out.written err.old_written err.written
     ran_by words_refused running reason is results errors = absurd (cc)
     ran_by read_failed running reason is results errors = absurd (cc)
     ran_by (refuses refusal) running reason is results errors = absurd (cc)
-    ran_by (compiles m) running (other, is_other, compiling, takes) is results errors =
+    ran_by (compiles m) running (calm, other, is_other, compiling, takes) is results errors =
         let same : modes.Compile ≡ modes.Run = sym compiling ∙ one_mode other command (command_of words) is_other asked ∙ running in
         absurd (cc)
-    ran_by (runs other m) running (is_other, asks, takes, has) is results errors =
+    ran_by (runs other image) running (calm, is_other, asks, takes) is results errors =
         let same : other ≡ command = one_command other command (command_of words) is_other asked in
-        shown_by m takes has (subst (λ c. Appends out out' (out_due (runs c m))) same results)
-        (subst (λ c. Appends err err' (err_due (runs c m))) same errors)
+        shown_by image takes (subst (λ c. TellsAll (out_due (runs c image)) out) same results)
+        (subst (λ c. TellsAll (err_due (runs c image)) err) same errors)
 
     -- what was written resolves, and its image shows what the module allows
-    pub answer_compiled : (status : Status) → Answers (HasReason words left left' faults faults') status out out' err err' → status ≡ statuses.Done →
-        command.mode ≡ modes.Compile → Compiled left left' out out'
+    pub answer_compiled : (status : Status) → Answers (HasReason words src) status out err → status ≡ statuses.Done →
+        command.mode ≡ modes.Compile → Compiled src.old_left src.left out.old_written out.written
     answer_compiled status answer is compiling =
-        let at = subst (λ s. Answers (HasReason words left left' faults faults') s out out' err err') is answer in
+        let at = subst (λ s. Answers (HasReason words src) s out err) is answer in
         compiled_by at.0 compiling at.1 at.2 at.3.results
 
     -- what was shown is what the module allows
-    pub answer_ran : (status : Status) → Answers (HasReason words left left' faults faults') status out out' err err' → status ≡ statuses.Done →
-        command.mode ≡ modes.Run → Ran command left left' out out' err err'
+    pub answer_ran : (status : Status) → Answers (HasReason words src) status out err → status ≡ statuses.Done →
+        command.mode ≡ modes.Run → Ran command src.old_left src.left out.old_written out.written err.old_written err.written
     answer_ran status answer is running =
-        let at = subst (λ s. Answers (HasReason words left left' faults faults') s out out' err err') is answer in
+        let at = subst (λ s. Answers (HasReason words src) s out err) is answer in
         ran_by at.0 running at.1 at.2 at.3.results at.3.errors

@@ -1,6 +1,7 @@
 pub mod Exact
-pub mod Main
 pub mod Numbers
 pub mod Outcome
 pub mod Partial
+pub mod Refusals
 pub mod Stops
+pub mod Streams

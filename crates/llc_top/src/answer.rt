@@ -1,20 +1,20 @@
 //! Answers that tell a line on the sink for errors.
-ghost use Rattle.std.specs.Prelude.{◌≡◌, ◌≢◌, ◌⊎◌};
-ghost use Rattle.cg_io.specs.Faults.{Rose};
-ghost use Rattle.llc_top.specs.Partial.{Told, ToldRefusal, ToldUnread};
+ghost use Rattle.std.specs.Prelude.{◌≢◌};
+ghost use Rattle.llc_top.specs.Partial.{Told, ToldRefusal, ToldUnlinked, ToldUnread};
+ghost use Rattle.llc_top.specs.Streams.{sink_change};
 
 use crate::status::Status;
-use crate::tell::tell_refusal;
-use cg_io::{Sink, write_all};
-use ir_syntax::Refusal;
+use crate::tell::{tell_refusal, write_piece};
+use cg_io::Sink;
+use ir_syntax::{Bytes, Refusal};
+use obj_link::Unlinked;
+use std::alloc::Global;
 
 /// Tells a line, and answers with the status that is due, or that the write failed.
 pub fn answer_line<E: Sink>(err: &mut E, line: &[u8], due: Status) -> Status
-    ensures told { Told result due line.now (E.written err.old) (E.written err.new) }
-    ensures fault { (result ≡ due) ⊎ Rose (E.faults err.old) (E.faults err.new) }
-    ensures kept { (result ≡ Status.WriteFault) ⊎ (E.faults err.new ≡ E.faults err.old) }
+    ensures { Told result due line.now (sink_change E.written E.faults err.old err.new) }
 {
-    match write_all(err, line) {
+    match write_piece(err, line) {
         Ok(()) => due,
         Err(_) => Status::WriteFault,
     }
@@ -23,9 +23,7 @@ pub fn answer_line<E: Sink>(err: &mut E, line: &[u8], due: Status) -> Status
 /// Tells a refusal, and answers `Refused`, or that the write failed.
 pub fn answer_refusal<E: Sink>(err: &mut E, refusal: Refusal) -> Status
     requires { refusal ≢ Refusal.NoMemory }
-    ensures told { ToldRefusal refusal result (E.written err.old) (E.written err.new) }
-    ensures fault { result ≡ Status.WriteFault → Rose (E.faults err.old) (E.faults err.new) }
-    ensures kept { (result ≡ Status.WriteFault) ⊎ (E.faults err.new ≡ E.faults err.old) }
+    ensures { ToldRefusal refusal result (sink_change E.written E.faults err.old err.new) }
 {
     match tell_refusal(err, refusal) {
         Ok(()) => Status::Refused,
@@ -35,12 +33,27 @@ pub fn answer_refusal<E: Sink>(err: &mut E, refusal: Refusal) -> Status
 
 /// Tells why a text is not read, unless memory ran out.
 pub fn answer_unread<E: Sink>(err: &mut E, refusal: Refusal) -> Status
-    ensures told { ToldUnread refusal result (E.written err.old) (E.written err.new) }
-    ensures fault { result ≡ Status.WriteFault → Rose (E.faults err.old) (E.faults err.new) }
-    ensures kept { (result ≡ Status.WriteFault) ⊎ (E.faults err.new ≡ E.faults err.old) }
+    ensures { ToldUnread refusal result (sink_change E.written E.faults err.old err.new) }
 {
     match refusal {
         Refusal::NoMemory => Status::NoMemory,
         refusal => answer_refusal(err, refusal),
+    }
+}
+
+/// Tells why a module is not linked, unless memory ran out.
+pub fn answer_unlinked<E: Sink>(alloc: Global, err: &mut E, why: Unlinked) -> Status
+    ensures { ToldUnlinked why result (sink_change E.written E.faults err.old err.new) }
+{
+    match why {
+        Unlinked::Undefined { name } => match Vec::from_slice(alloc, name.as_bytes()) {
+            Ok(bytes) => {
+                let name = Bytes::from_vec(bytes);
+                answer_refusal(err, Refusal::Unresolved { name })
+            }
+            Err(_) => Status::NoMemory,
+        },
+        Unlinked::TooLarge { bytes } => answer_refusal(err, Refusal::Image { bytes }),
+        Unlinked::NoMemory => Status::NoMemory,
     }
 }

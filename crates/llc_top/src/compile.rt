@@ -1,10 +1,9 @@
 //! A module, compiled.
-ghost use Rattle.std.specs.Prelude.{◌≡◌, ◌⊎◌, IfOk};
-ghost use Rattle.std.specs.Io.KnownBytes.{Appends};
-ghost use Rattle.cg_io.specs.Faults.{Rose};
-ghost use Rattle.cg_built.specs.Built.{IsBuilt};
+ghost use Rattle.std.specs.Prelude.{◌≡◌, IfOk};
+ghost use Rattle.cg_built.specs.Unbuilt.{IsBuilt};
 ghost use Rattle.cg_part.specs.Text.{output_of};
 ghost use Rattle.llc_top.specs.Partial.{Written};
+ghost use Rattle.llc_top.specs.Streams.{sink_change};
 
 use crate::status::Status;
 use cg_io::{Sink, write_all};
@@ -15,9 +14,7 @@ use std::alloc::{AllocError, Global};
 /// Writes what a module compiles to.
 pub fn write_output<O: Sink>(alloc: Global, m: &Module, out: &mut O) -> Status
     requires { IsBuilt m.now }
-    ensures written { Written m.now result (O.written out.old) (O.written out.new) }
-    ensures fault { result ≡ Status.WriteFault → Rose (O.faults out.old) (O.faults out.new) }
-    ensures kept { (result ≡ Status.WriteFault) ⊎ (O.faults out.new ≡ O.faults out.old) }
+    ensures { Written m.now result (sink_change O.written O.faults out.old out.new) }
 {
     let Ok(output) = output_text(alloc, m) else {
         return Status::NoMemory;

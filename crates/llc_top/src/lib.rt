@@ -6,8 +6,8 @@ mod compile;
 mod execute;
 mod run;
 mod serve;
-mod start;
 mod status;
+mod symbol;
 mod tell;
 
 pub use run::run_llc;

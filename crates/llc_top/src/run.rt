@@ -3,7 +3,9 @@ ghost use Rattle.std.specs.Prelude.{◌≡◌, ◌⊎◌, ◌+◌, Some, None, m
 ghost use Rattle.cg_io.specs.Faults.{Rose};
 ghost use Rattle.cg_io.specs.Told.{TakesAtMost};
 ghost use Rattle.llc_top.specs.Exact.{IsExact, Compiled, Ran};
-ghost use Rattle.llc_top.specs.Outcome.{Answers, HasReason, text_limit};
+ghost use Rattle.llc_top.specs.Outcome.{Answers, HasReason};
+ghost use Rattle.llc_top.specs.Refusals.{text_limit};
+ghost use Rattle.llc_top.specs.Streams.{source_change, sink_change};
 ghost use Rattle.llc_words.specs.Commands.{Command, command_of};
 ghost use Rattle.llc_words.specs.declared.types.Mode.TheVariants.{Compile, Run};
 
@@ -31,11 +33,11 @@ pub fn run_llc<S: Source, O: Sink, E: Sink>(
     out: &mut O,
     err: &mut E,
 ) -> Status
-    // What came of it, why, and what the sinks got; after a write fault a first part of what was due.
+    // What came of it, why, and what the sinks got. After a write fault that is a proper prefix of what was due,
+    // and the sink whose write failed is the last that was written to.
     ensures answer { Answers
-        (HasReason (map (λ word. string_bytes word) words.now) (S.left src.old) (S.left src.new)
-        (S.faults src.old) (S.faults src.new))
-        result (O.written out.old) (O.written out.new) (E.written err.old) (E.written err.new) }
+        (HasReason (map (λ word. string_bytes word) words.now) (source_change S.left S.faults src.old src.new))
+        result (sink_change O.written O.faults out.old out.new) (sink_change E.written E.faults err.old err.new) }
 
     // Of a source that tells its bytes, an accepted text is never refused, and one with a first
     // refusal never done.
@@ -51,7 +53,7 @@ pub fn run_llc<S: Source, O: Sink, E: Sink>(
     ensures write_fault { result ≡ Status.WriteFault →
         Rose (O.faults out.old) (O.faults out.new) ⊎ Rose (E.faults err.old) (E.faults err.new) }
 
-    // A read or a write that fails ends the run.
+    // A read or a write that fails ends the run, and no other outcome comes with one.
     ensures kept_src { (result ≡ Status.ReadFault) ⊎ (result ≡ Status.WriteFault) ⊎
         (S.faults src.new ≡ S.faults src.old) }
     ensures kept_out { (result ≡ Status.WriteFault) ⊎ (O.faults out.new ≡ O.faults out.old) }
@@ -87,19 +89,11 @@ fn run_command<S: Source, O: Sink, E: Sink>(
     err: &mut E,
 ) -> Status
     ensures answer { Answers
-        (HasReason (map (λ word. string_bytes word) words.now) (S.left src.old) (S.left src.new)
-        (S.faults src.old) (S.faults src.new))
-        result (O.written out.old) (O.written out.new) (E.written err.old) (E.written err.new) }
-    ensures words { command_of (map (λ word. string_bytes word) words.now) ≡ None →
-        (result ≡ Status.Words) ⊎ (result ≡ Status.NoMemory) ⊎ (result ≡ Status.WriteFault) }
+        (HasReason (map (λ word. string_bytes word) words.now) (source_change S.left S.faults src.old src.new))
+        result (sink_change O.written O.faults out.old out.new) (sink_change E.written E.faults err.old err.new) }
     ensures unread { command_of (map (λ word. string_bytes word) words.now) ≡ None → src.new ≡ src.old }
-    ensures read_fault { result ≡ Status.ReadFault → Rose (S.faults src.old) (S.faults src.new) }
-    ensures write_fault { result ≡ Status.WriteFault →
-        Rose (O.faults out.old) (O.faults out.new) ⊎ Rose (E.faults err.old) (E.faults err.new) }
     ensures kept_src { (result ≡ Status.ReadFault) ⊎ (result ≡ Status.WriteFault) ⊎
         (S.faults src.new ≡ S.faults src.old) }
-    ensures kept_out { (result ≡ Status.WriteFault) ⊎ (O.faults out.new ≡ O.faults out.old) }
-    ensures kept_err { (result ≡ Status.WriteFault) ⊎ (E.faults err.new ≡ E.faults err.old) }
     ensures most { TakesAtMost (text_limit + 1) (S.left src.old) (S.left src.new) }
     ensures untouched { (result ≡ Status.Done) ⊎ (result ≡ Status.NoMemory) ⊎ (result ≡ Status.WriteFault) ⊎
         (out.new ≡ out.old) }

@@ -1,17 +1,18 @@
 //! A text that was read whole: refused, compiled or run.
 ghost use Rattle.std.specs.Prelude.{◌≡◌, ◌≤◌, ◌⊎◌, length};
-ghost use Rattle.cg_io.specs.Faults.{Rose};
-ghost use Rattle.cg_built.specs.Built.{IsProgram};
-ghost use Rattle.llc_top.specs.Outcome.{Answers, text_limit};
-ghost use Rattle.llc_top.specs.Partial.{HasTextReason, HasModuleReason};
+ghost use Rattle.cg_built.specs.Unbuilt.{IsBuilt};
+ghost use Rattle.llc_top.specs.Outcome.{Answers};
+ghost use Rattle.llc_top.specs.Partial.{HasTextReason, HasModuleReason, HasRunReason};
+ghost use Rattle.llc_top.specs.Refusals.{text_limit};
+ghost use Rattle.llc_top.specs.Streams.{sink_change};
 
-use crate::answer::{answer_refusal, answer_unread};
+use crate::answer::{answer_refusal, answer_unlinked, answer_unread};
 use crate::compile::write_output;
 use crate::execute::execute;
-use crate::start::{defines_a_main, has_a_main};
 use crate::status::Status;
-use cg_built::unbuilt;
+use cg_built::{defines_main, has_main, unbuilt};
 use cg_io::Sink;
+use cg_part::program_of;
 use ir_read::read_module;
 use ir_syntax::{Module, Refusal};
 use llc_words::{Command, Mode};
@@ -27,11 +28,7 @@ pub fn serve_text<O: Sink, E: Sink>(
 ) -> Status
     requires { length text.now ≤ text_limit }
     ensures answer { Answers (HasTextReason command.now text.now) result
-        (O.written out.old) (O.written out.new) (E.written err.old) (E.written err.new) }
-    ensures fault { result ≡ Status.WriteFault →
-        Rose (O.faults out.old) (O.faults out.new) ⊎ Rose (E.faults err.old) (E.faults err.new) }
-    ensures kept_out { (result ≡ Status.WriteFault) ⊎ (O.faults out.new ≡ O.faults out.old) }
-    ensures kept_err { (result ≡ Status.WriteFault) ⊎ (E.faults err.new ≡ E.faults err.old) }
+        (sink_change O.written O.faults out.old out.new) (sink_change E.written E.faults err.old err.new) }
     ensures untouched { (result ≡ Status.Done) ⊎ (result ≡ Status.NoMemory) ⊎ (result ≡ Status.WriteFault) ⊎
         (out.new ≡ out.old) }
 {
@@ -46,6 +43,7 @@ pub fn serve_text<O: Sink, E: Sink>(
     }
 }
 
+/// Compiles or runs a module of which all is built.
 fn serve_module<O: Sink, E: Sink>(
     alloc: Global,
     command: &Command<'_>,
@@ -53,26 +51,40 @@ fn serve_module<O: Sink, E: Sink>(
     out: &mut O,
     err: &mut E,
 ) -> Status
-    requires { IsProgram m.now }
+    requires { IsBuilt m.now }
     ensures answer { Answers (HasModuleReason command.now m.now) result
-        (O.written out.old) (O.written out.new) (E.written err.old) (E.written err.new) }
-    ensures fault { result ≡ Status.WriteFault →
-        Rose (O.faults out.old) (O.faults out.new) ⊎ Rose (E.faults err.old) (E.faults err.new) }
-    ensures kept_out { (result ≡ Status.WriteFault) ⊎ (O.faults out.new ≡ O.faults out.old) }
-    ensures kept_err { (result ≡ Status.WriteFault) ⊎ (E.faults err.new ≡ E.faults err.old) }
+        (sink_change O.written O.faults out.old out.new) (sink_change E.written E.faults err.old err.new) }
     ensures untouched { (result ≡ Status.Done) ⊎ (result ≡ Status.NoMemory) ⊎ (result ≡ Status.WriteFault) ⊎
         (out.new ≡ out.old) }
 {
     match command.mode() {
         Mode::Compile => write_output(alloc, m, out),
-        Mode::Run => {
-            if !defines_a_main(m) {
-                return answer_refusal(err, Refusal::NoMain);
-            }
-            if !has_a_main(m) {
-                return answer_refusal(err, Refusal::BadMain);
-            }
-            execute(alloc, command, m, out, err)
-        }
+        Mode::Run => run_module(alloc, command, m, out, err),
+    }
+}
+
+/// Runs a module of which all is built, or tells why that can't be.
+fn run_module<O: Sink, E: Sink>(
+    alloc: Global,
+    command: &Command<'_>,
+    m: &Module,
+    out: &mut O,
+    err: &mut E,
+) -> Status
+    requires { IsBuilt m.now }
+    ensures answer { Answers (HasRunReason command.now m.now) result
+        (sink_change O.written O.faults out.old out.new) (sink_change E.written E.faults err.old err.new) }
+    ensures untouched { (result ≡ Status.Done) ⊎ (result ≡ Status.NoMemory) ⊎ (result ≡ Status.WriteFault) ⊎
+        (out.new ≡ out.old) }
+{
+    if !defines_main(m) {
+        return answer_refusal(err, Refusal::NoMain);
+    }
+    if !has_main(m) {
+        return answer_refusal(err, Refusal::BadMain);
+    }
+    match program_of(alloc, m) {
+        Ok(image) => execute(alloc, command, &image, out, err),
+        Err(why) => answer_unlinked(alloc, err, why),
     }
 }

@@ -1,28 +1,25 @@
 //! Lines on the sink for errors.
 ghost use Rattle.std.specs.Prelude.{◌≡◌, ◌≢◌, ◌++◌, decimal, OnOk, OnErr};
-ghost use Rattle.std.specs.Io.KnownBytes.{Appends};
-ghost use Rattle.cg_io.specs.Faults.{Rose};
-ghost use Rattle.cg_io.specs.Told.{AppendsPrefix};
 ghost use Rattle.rv_isa.specs.Lines.{ended};
 ghost use Rattle.llc_top.specs.Outcome.{refusal_text};
 ghost use Rattle.llc_top.specs.Stops.{stop_text, trap_text};
+ghost use Rattle.llc_top.specs.Streams.{sink_change, TellsAll, CutOff};
 
+use crate::symbol::tell_unresolved;
 use cg_io::{Sink, write_all};
 use ir_syntax::Refusal;
 use itoa::Buffer;
 use rv_mach::{Stop, TrapKind};
 
-/// A write failed. What the sink got is a first part of what was due.
+/// A write failed. What the sink got is a proper prefix of what was due.
 #[derive(Clone, Copy, Debug, PartialEq, Eq)]
 pub struct Untold;
 
-/// Tells a refusal: its number, its name and its fields. Of want of memory nothing is told.
+/// Tells a refusal: its number, its name and its fields. Where memory ran out nothing is told.
 pub fn tell_refusal<E: Sink>(err: &mut E, refusal: Refusal) -> Result<(), Untold>
     requires { refusal ≢ Refusal.NoMemory }
-    ensures all { OnOk result (Appends (E.written err.old) (E.written err.new) (ended (refusal_text refusal))) }
-    ensures prefix { AppendsPrefix (E.written err.old) (E.written err.new) (ended (refusal_text refusal)) }
-    ensures fault { OnErr result (Rose (E.faults err.old) (E.faults err.new)) }
-    ensures kept { OnOk result (E.faults err.new ≡ E.faults err.old) }
+    ensures all { OnOk result (TellsAll (ended (refusal_text refusal)) (sink_change E.written E.faults err.old err.new)) }
+    ensures cut_off { OnErr result (CutOff (ended (refusal_text refusal)) (sink_change E.written E.faults err.old err.new)) }
 {
     match refusal {
         Refusal::TooLong { taken } => tell_number(err, b"llc: refused 1 TooLong ", taken),
@@ -32,6 +29,8 @@ pub fn tell_refusal<E: Sink>(err: &mut E, refusal: Refusal) -> Result<(), Untold
         Refusal::Name { line } => tell_number(err, b"llc: refused 5 Name ", u64::from(line)),
         Refusal::NoMain => write_piece(err, b"llc: refused 14 NoMain\n"),
         Refusal::BadMain => write_piece(err, b"llc: refused 15 BadMain\n"),
+        Refusal::Unresolved { name } => tell_unresolved(err, name.as_slice()),
+        Refusal::Image { bytes } => tell_number(err, b"llc: refused 17 Image ", bytes),
         Refusal::NotYet { line } => tell_number(err, b"llc: refused 18 NotYet ", u64::from(line)),
         Refusal::NoMemory => unreachable!(),
     }
@@ -39,10 +38,8 @@ pub fn tell_refusal<E: Sink>(err: &mut E, refusal: Refusal) -> Result<(), Untold
 
 /// Tells how a run on the machine ended.
 pub fn tell_stop<E: Sink>(err: &mut E, stop: Stop) -> Result<(), Untold>
-    ensures all { OnOk result (Appends (E.written err.old) (E.written err.new) (ended (stop_text stop))) }
-    ensures prefix { AppendsPrefix (E.written err.old) (E.written err.new) (ended (stop_text stop)) }
-    ensures fault { OnErr result (Rose (E.faults err.old) (E.faults err.new)) }
-    ensures kept { OnOk result (E.faults err.new ≡ E.faults err.old) }
+    ensures all { OnOk result (TellsAll (ended (stop_text stop)) (sink_change E.written E.faults err.old err.new)) }
+    ensures cut_off { OnErr result (CutOff (ended (stop_text stop)) (sink_change E.written E.faults err.old err.new)) }
 {
     match stop {
         Stop::Exited(code) => tell_number(err, b"exit ", u64::from(code)),
@@ -66,10 +63,8 @@ fn trap_line(kind: TrapKind) -> &'static [u8]
 
 /// Tells that a word is not supported on a line. It takes no memory.
 fn tell_word<E: Sink>(err: &mut E, line: u32, word: &[u8]) -> Result<(), Untold>
-    ensures all { OnOk result (Appends (E.written err.old) (E.written err.new) (ended (refusal_text (Refusal.Unsupported line word.now)))) }
-    ensures prefix { AppendsPrefix (E.written err.old) (E.written err.new) (ended (refusal_text (Refusal.Unsupported line word.now))) }
-    ensures fault { OnErr result (Rose (E.faults err.old) (E.faults err.new)) }
-    ensures kept { OnOk result (E.faults err.new ≡ E.faults err.old) }
+    ensures all { OnOk result (TellsAll (ended (refusal_text (Refusal.Unsupported line word.now))) (sink_change E.written E.faults err.old err.new)) }
+    ensures cut_off { OnErr result (CutOff (ended (refusal_text (Refusal.Unsupported line word.now))) (sink_change E.written E.faults err.old err.new)) }
 {
     let mut digits = Buffer::new();
     let number = digits.format(u64::from(line)).as_bytes();
@@ -80,11 +75,9 @@ fn tell_word<E: Sink>(err: &mut E, line: u32, word: &[u8]) -> Result<(), Untold>
 }
 
 /// Writes these bytes.
-fn write_piece<E: Sink>(err: &mut E, bytes: &[u8]) -> Result<(), Untold>
-    ensures all { OnOk result (Appends (E.written err.old) (E.written err.new) bytes.now) }
-    ensures prefix { AppendsPrefix (E.written err.old) (E.written err.new) bytes.now }
-    ensures fault { OnErr result (Rose (E.faults err.old) (E.faults err.new)) }
-    ensures kept { OnOk result (E.faults err.new ≡ E.faults err.old) }
+pub fn write_piece<E: Sink>(err: &mut E, bytes: &[u8]) -> Result<(), Untold>
+    ensures all { OnOk result (TellsAll bytes.now (sink_change E.written E.faults err.old err.new)) }
+    ensures cut_off { OnErr result (CutOff bytes.now (sink_change E.written E.faults err.old err.new)) }
 {
     match write_all(err, bytes) {
         Ok(()) => Ok(()),
@@ -94,10 +87,8 @@ fn write_piece<E: Sink>(err: &mut E, bytes: &[u8]) -> Result<(), Untold>
 
 /// Writes these bytes, then those.
 fn write_both<E: Sink>(err: &mut E, first: &[u8], second: &[u8]) -> Result<(), Untold>
-    ensures all { OnOk result (Appends (E.written err.old) (E.written err.new) (first.now ++ second.now)) }
-    ensures prefix { AppendsPrefix (E.written err.old) (E.written err.new) (first.now ++ second.now) }
-    ensures fault { OnErr result (Rose (E.faults err.old) (E.faults err.new)) }
-    ensures kept { OnOk result (E.faults err.new ≡ E.faults err.old) }
+    ensures all { OnOk result (TellsAll (first.now ++ second.now) (sink_change E.written E.faults err.old err.new)) }
+    ensures cut_off { OnErr result (CutOff (first.now ++ second.now) (sink_change E.written E.faults err.old err.new)) }
 {
     write_piece(err, first)?;
     write_piece(err, second)?;
@@ -106,10 +97,8 @@ fn write_both<E: Sink>(err: &mut E, first: &[u8], second: &[u8]) -> Result<(), U
 
 /// Tells a line that ends in a number. It takes no memory.
 fn tell_number<E: Sink>(err: &mut E, text: &[u8], number: u64) -> Result<(), Untold>
-    ensures all { OnOk result (Appends (E.written err.old) (E.written err.new) (ended (text.now ++ decimal number))) }
-    ensures prefix { AppendsPrefix (E.written err.old) (E.written err.new) (ended (text.now ++ decimal number)) }
-    ensures fault { OnErr result (Rose (E.faults err.old) (E.faults err.new)) }
-    ensures kept { OnOk result (E.faults err.new ≡ E.faults err.old) }
+    ensures all { OnOk result (TellsAll (ended (text.now ++ decimal number)) (sink_change E.written E.faults err.old err.new)) }
+    ensures cut_off { OnErr result (CutOff (ended (text.now ++ decimal number)) (sink_change E.written E.faults err.old err.new)) }
 {
     let mut digits = Buffer::new();
     write_piece(err, text)?;

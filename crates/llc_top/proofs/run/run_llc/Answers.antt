@@ -1,21 +1,69 @@
 use Rattle.std.proofs.Common.{String, Global, map, string_bytes}
+use Rattle.llc_top.specs.Streams.{source_change, sink_change}
+use Rattle.llc_top.proofs.Answering.{answer-kept_err, answer-kept_out, answer-read_fault, answer-words, answer-write_fault}
 use Rattle.llc_top.proofs.Apart.{answer_compiled, answer_exact, answer_ran}
 use Rattle.llc_top.proofs.run.run_llc.Goals as goal
 
 pub returns-clause-exact : goal.returns-clause-exact
 returns-clause-exact g c =
-    answer_exact (map (λ (word : String Global). string_bytes word) c.args.words.now) (g.S.Source.left c.args.src.now)
-    (g.S.Source.left c.run_command.new.src) (g.S.Source.faults c.args.src.now) (g.S.Source.faults c.run_command.new.src) (g.O.Sink.written c.args.out.now) (g.O.Sink.written c.run_command.new.out)
-    (g.E.Sink.written c.args.err.now) (g.E.Sink.written c.run_command.new.err) c.run_command.result c.run_command.ensures.answer
+    answer_exact (map (λ (word : String Global). string_bytes word) c.args.words.now)
+    (source_change g.S.Source.left g.S.Source.faults c.args.src.now c.run_command.new.src)
+    (sink_change g.O.Sink.written g.O.Sink.faults c.args.out.now c.run_command.new.out)
+    (sink_change g.E.Sink.written g.E.Sink.faults c.args.err.now c.run_command.new.err)
+    c.run_command.result c.run_command.ensures.answer
 
 pub returns-clause-compiled : goal.returns-clause-compiled
 returns-clause-compiled g c done command asked mode =
-    answer_compiled (map (λ (word : String Global). string_bytes word) c.args.words.now) (g.S.Source.left c.args.src.now)
-    (g.S.Source.left c.run_command.new.src) (g.S.Source.faults c.args.src.now) (g.S.Source.faults c.run_command.new.src) (g.O.Sink.written c.args.out.now) (g.O.Sink.written c.run_command.new.out)
-    (g.E.Sink.written c.args.err.now) (g.E.Sink.written c.run_command.new.err) command asked c.run_command.result c.run_command.ensures.answer done mode
+    answer_compiled (map (λ (word : String Global). string_bytes word) c.args.words.now)
+    (source_change g.S.Source.left g.S.Source.faults c.args.src.now c.run_command.new.src)
+    (sink_change g.O.Sink.written g.O.Sink.faults c.args.out.now c.run_command.new.out)
+    (sink_change g.E.Sink.written g.E.Sink.faults c.args.err.now c.run_command.new.err)
+    command asked c.run_command.result c.run_command.ensures.answer done mode
 
 pub returns-clause-ran : goal.returns-clause-ran
 returns-clause-ran g c done command asked mode =
-    answer_ran (map (λ (word : String Global). string_bytes word) c.args.words.now) (g.S.Source.left c.args.src.now)
-    (g.S.Source.left c.run_command.new.src) (g.S.Source.faults c.args.src.now) (g.S.Source.faults c.run_command.new.src) (g.O.Sink.written c.args.out.now) (g.O.Sink.written c.run_command.new.out)
-    (g.E.Sink.written c.args.err.now) (g.E.Sink.written c.run_command.new.err) command asked c.run_command.result c.run_command.ensures.answer done mode
+    answer_ran (map (λ (word : String Global). string_bytes word) c.args.words.now)
+    (source_change g.S.Source.left g.S.Source.faults c.args.src.now c.run_command.new.src)
+    (sink_change g.O.Sink.written g.O.Sink.faults c.args.out.now c.run_command.new.out)
+    (sink_change g.E.Sink.written g.E.Sink.faults c.args.err.now c.run_command.new.err)
+    command asked c.run_command.result c.run_command.ensures.answer done mode
+
+pub returns-clause-words : goal.returns-clause-words
+returns-clause-words g c =
+    answer-words (map (λ (word : String Global). string_bytes word) c.args.words.now)
+    (source_change g.S.Source.left g.S.Source.faults c.args.src.now c.run_command.new.src)
+    (sink_change g.O.Sink.written g.O.Sink.faults c.args.out.now c.run_command.new.out)
+    (sink_change g.E.Sink.written g.E.Sink.faults c.args.err.now c.run_command.new.err)
+    c.run_command.result c.run_command.ensures.answer
+
+pub returns-clause-read_fault : goal.returns-clause-read_fault
+returns-clause-read_fault g c =
+    answer-read_fault (map (λ (word : String Global). string_bytes word) c.args.words.now)
+    (source_change g.S.Source.left g.S.Source.faults c.args.src.now c.run_command.new.src)
+    (sink_change g.O.Sink.written g.O.Sink.faults c.args.out.now c.run_command.new.out)
+    (sink_change g.E.Sink.written g.E.Sink.faults c.args.err.now c.run_command.new.err)
+    c.run_command.result c.run_command.ensures.answer
+
+pub returns-clause-write_fault : goal.returns-clause-write_fault
+returns-clause-write_fault g c =
+    answer-write_fault (map (λ (word : String Global). string_bytes word) c.args.words.now)
+    (source_change g.S.Source.left g.S.Source.faults c.args.src.now c.run_command.new.src)
+    (sink_change g.O.Sink.written g.O.Sink.faults c.args.out.now c.run_command.new.out)
+    (sink_change g.E.Sink.written g.E.Sink.faults c.args.err.now c.run_command.new.err)
+    c.run_command.result c.run_command.ensures.answer
+
+pub returns-clause-kept_out : goal.returns-clause-kept_out
+returns-clause-kept_out g c =
+    answer-kept_out (map (λ (word : String Global). string_bytes word) c.args.words.now)
+    (source_change g.S.Source.left g.S.Source.faults c.args.src.now c.run_command.new.src)
+    (sink_change g.O.Sink.written g.O.Sink.faults c.args.out.now c.run_command.new.out)
+    (sink_change g.E.Sink.written g.E.Sink.faults c.args.err.now c.run_command.new.err)
+    c.run_command.result c.run_command.ensures.answer
+
+pub returns-clause-kept_err : goal.returns-clause-kept_err
+returns-clause-kept_err g c =
+    answer-kept_err (map (λ (word : String Global). string_bytes word) c.args.words.now)
+    (source_change g.S.Source.left g.S.Source.faults c.args.src.now c.run_command.new.src)
+    (sink_change g.O.Sink.written g.O.Sink.faults c.args.out.now c.run_command.new.out)
+    (sink_change g.E.Sink.written g.E.Sink.faults c.args.err.now c.run_command.new.err)
+    c.run_command.result c.run_command.ensures.answer
