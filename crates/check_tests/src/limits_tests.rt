@@ -1,9 +1,8 @@
 //! Modules at the limits and just beyond them.
-use crate::modules::{Piece, push_pieces, read};
+use crate::modules::{Piece, push_pieces, read, text_of};
 use ir_check::{Count, exceeded_limit};
 use ir_syntax::Module;
 use std::alloc::{AllocError, Global};
-use std::test::Fail;
 
 /// An instruction of a type of one place.
 const FREEZE: &str = "freeze i1 undef\n";
@@ -29,7 +28,7 @@ const LONG: &[Piece] = &[
 const DECLARED: &[Piece] = &[(1, "declare void @g()\n")];
 
 /// Functions, each as often as it stands there, and the limit that they exceed.
-const FUNCTIONS: [(&[(usize, &[Piece])], Option<Count>); 8] = [
+const FUNCTIONS: &[(&[(usize, &[Piece])], Option<Count>)] = &[
     // A module defines at most 4,096 functions; of two limits the first is told.
     (&[(1, DECLARED)], None),
     (&[(4096, SHORT), (1, DECLARED)], None),
@@ -62,7 +61,7 @@ const FUNCTIONS: [(&[(usize, &[Piece])], Option<Count>); 8] = [
 ];
 
 /// The text of a function, and the limit that it exceeds. It has at most 65,536 instructions that paths reach.
-const BODIES: [(&[Piece], Option<Count>); 9] = [
+const BODIES: &[(&[Piece], Option<Count>)] = &[
     (LONG, None),
     (
         &[
@@ -143,37 +142,33 @@ const BODIES: [(&[Piece], Option<Count>); 9] = [
 ];
 
 /// Whether a module exceeds this limit first.
-pub(crate) fn exceeds(
-    alloc: Global,
-    module: &Module,
-    limit: Option<Count>,
-) -> Result<bool, AllocError> {
-    Ok(exceeded_limit(alloc, module)? == limit)
+pub(crate) fn exceeds(alloc: Global, module: &Module, limit: Option<Count>) -> bool {
+    match exceeded_limit(alloc, module) {
+        Ok(found) => found == limit,
+        Err(_) => false,
+    }
 }
 
 /// Whether a text is read, and its module exceeds this limit first.
-pub(crate) fn is_told(
-    alloc: Global,
-    text: &[u8],
-    limit: Option<Count>,
-) -> Result<bool, AllocError> {
-    match read(alloc, text)? {
+pub(crate) fn is_told(alloc: Global, text: &[u8], limit: Option<Count>) -> bool {
+    match read(alloc, text) {
         Some(module) => exceeds(alloc, &module, limit),
-        None => Ok(false),
+        None => false,
     }
 }
 
-/// Adds functions to a text, each so often.
-fn push_functions(
-    text: &mut Vec<u8>,
+/// A text of functions, each so often.
+fn functions_of(
+    alloc: Global,
     functions: &[(usize, &'static [Piece])],
-) -> Result<(), AllocError> {
+) -> Result<Vec<u8>, AllocError> {
+    let mut text = Vec::new(alloc);
     for (times, function) in functions {
         for _time in 0..*times {
-            push_pieces(text, function)?;
+            push_pieces(&mut text, function)?;
         }
     }
-    Ok(())
+    Ok(text)
 }
 
 /// Whether these functions exceed this limit first.
@@ -181,28 +176,25 @@ fn is_told_of(
     alloc: Global,
     functions: &[(usize, &'static [Piece])],
     limit: Option<Count>,
-) -> Result<bool, AllocError> {
-    let mut text = Vec::new(alloc);
-    push_functions(&mut text, functions)?;
-    is_told(alloc, text.as_slice(), limit)
+) -> bool {
+    match functions_of(alloc, functions) {
+        Ok(text) => is_told(alloc, text.as_slice(), limit),
+        Err(_) => false,
+    }
 }
 
 #[test]
-fn the_first_limit_that_functions_exceed_is_told(rt: HostRuntime) -> Result<(), Fail> {
+fn the_first_limit_that_functions_exceed_is_told(rt: HostRuntime) {
     for (functions, limit) in FUNCTIONS {
-        let right = is_told_of(rt.alloc(), functions, limit)?;
-        assert!(rt; right, "{functions:?}");
+        assert!(rt; is_told_of(rt.alloc(), functions, *limit), "{functions:?}");
     }
-    Ok(())
 }
 
 #[test]
-fn a_function_has_at_most_65536_instructions_that_paths_reach(rt: HostRuntime) -> Result<(), Fail> {
+fn a_function_has_at_most_65536_instructions_that_paths_reach(rt: HostRuntime) {
     for (body, limit) in BODIES {
-        let right = is_told_of(rt.alloc(), &[(1, body)], limit)?;
-        assert!(rt; right, "{body:?}");
+        assert!(rt; is_told_of(rt.alloc(), &[(1, *body)], *limit), "{body:?}");
     }
-    Ok(())
 }
 
 /// A function of 4,194,304 places without its terminator: 3 that each module with a function has, 1,023 loads of a
@@ -218,8 +210,11 @@ const FULL: &[Piece] = &[
     (1, "freeze %1 undef\nfreeze %2 undef\n"),
 ];
 
-/// Terminators of that function, and the limit that it exceeds then. Another block, `b`, writes a type of one place.
-const ENDS: [(&str, Option<Count>); 4] = [
+/// Another block of that function, which writes a type of one place.
+const BLOCK: &str = "\nb: freeze i1 undef\nunreachable }";
+
+/// Terminators of that function, and the limit that it exceeds then.
+const ENDS: &[(&str, Option<Count>)] = &[
     ("unreachable", None),
     ("br label %undefined", None),
     ("br label %b", Some(Count::TypePlaces)),
@@ -229,20 +224,24 @@ const ENDS: [(&str, Option<Count>); 4] = [
     ),
 ];
 
+/// The text of that function with this terminator, and of the block `b`.
+fn text_with_end(alloc: Global, end: &'static str) -> Result<Vec<u8>, AllocError> {
+    let mut text = text_of(alloc, FULL)?;
+    push_pieces(&mut text, &[(1, end), (1, BLOCK)])?;
+    Ok(text)
+}
+
 /// Whether that function exceeds this limit with this terminator.
-fn is_told_of_end(alloc: Global, end: &str, limit: Option<Count>) -> Result<bool, AllocError> {
-    let mut text = Vec::new(alloc);
-    push_pieces(&mut text, FULL)?;
-    text.extend_from_slice(end.as_bytes())?;
-    text.extend_from_slice(b"\nb: freeze i1 undef\nunreachable }")?;
-    is_told(alloc, text.as_slice(), limit)
+fn is_told_of_end(alloc: Global, end: &'static str, limit: Option<Count>) -> bool {
+    match text_with_end(alloc, end) {
+        Ok(text) => is_told(alloc, text.as_slice(), limit),
+        Err(_) => false,
+    }
 }
 
 #[test]
-fn all_mentioned_types_have_at_most_4194304_places(rt: HostRuntime) -> Result<(), Fail> {
+fn all_mentioned_types_have_at_most_4194304_places(rt: HostRuntime) {
     for (end, limit) in ENDS {
-        let right = is_told_of_end(rt.alloc(), end, limit)?;
-        assert!(rt; right, "{end}");
+        assert!(rt; is_told_of_end(rt.alloc(), end, *limit), "{end}");
     }
-    Ok(())
 }

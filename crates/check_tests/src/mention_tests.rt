@@ -1,13 +1,12 @@
 //! The places of the types that each part of a module writes.
 use crate::limits_tests::{exceeds, is_told};
-use crate::modules::{Piece, module_of, push_pieces, read_items};
+use crate::modules::{Piece, module_of, push_pieces, read_items, text_of};
 use ir_check::Count;
 use ir_ident::Name;
 use ir_read::{Entities, Entity};
-use ir_syntax::{Module, Param, Params};
+use ir_syntax::{Param, Params};
 use std::alloc::{AllocError, Global};
 use std::mem;
-use std::test::Fail;
 
 /// Types of 4,095 and 4,093 places, and a declared function, whose types do not count.
 const TYPES: &[Piece] = &[
@@ -19,7 +18,7 @@ const TYPES: &[Piece] = &[
 ];
 
 /// Ends of a body, each with the places of the types that it writes.
-const ENDS: [(usize, &str); 18] = [
+const ENDS: &[(usize, &str)] = &[
     (1, "add i8 undef, undef\nret void }"),
     (1, "udiv i8 undef, undef\nret void }"),
     (1, "and i8 undef, undef\nret void }"),
@@ -53,59 +52,55 @@ const ENDS: [(usize, &str); 18] = [
 /// The head of a function that writes no type, and of its first block.
 const HEAD: &str = "define void @f() { a:\n";
 
-/// Adds a module with types of so many places fewer than 4,194,304, or one more than that, in front of the end of a
+/// A module with types of so many places fewer than 4,194,304, or one more than that, in front of the end of a
 /// body: 3 that each module with a function has, 1,022 loads of 4,096, a struct of 4,093, and up to 4,097 of one place
 /// each.
-fn push_module(
-    text: &mut Vec<u8>,
-    head: &str,
-    end: &str,
+fn module_text(
+    alloc: Global,
+    head: &'static str,
+    end: &'static str,
     fewer: usize,
     is_one_more: bool,
-) -> Result<(), AllocError> {
-    push_pieces(text, TYPES)?;
-    text.extend_from_slice(head.as_bytes())?;
+) -> Result<Vec<u8>, AllocError> {
+    let mut text = text_of(alloc, TYPES)?;
     let ones = 4096usize.saturating_sub(fewer);
     push_pieces(
-        text,
+        &mut text,
         &[
+            (1, head),
             (1022, "load %0, ptr null\n"),
             (1, "freeze %1 undef\n"),
             (ones, "freeze i1 undef\n"),
             (usize::from(is_one_more), "freeze i1 undef\n"),
+            (1, end),
         ],
     )?;
-    text.extend_from_slice(end.as_bytes())
+    Ok(text)
+}
+
+/// The limit that such a module exceeds.
+fn limit_of(is_one_more: bool) -> Option<Count> {
+    is_one_more.then_some(Count::TypePlaces)
 }
 
 /// Whether that module exceeds no limit, or the limit of places with one more.
-fn is_told_beside(
-    alloc: Global,
-    end: &str,
-    fewer: usize,
-    is_one_more: bool,
-) -> Result<bool, AllocError> {
-    let mut text = Vec::new(alloc);
-    push_module(&mut text, HEAD, end, fewer, is_one_more)?;
-    is_told(
-        alloc,
-        text.as_slice(),
-        is_one_more.then_some(Count::TypePlaces),
-    )
+fn is_told_beside(alloc: Global, end: &'static str, fewer: usize, is_one_more: bool) -> bool {
+    match module_text(alloc, HEAD, end, fewer, is_one_more) {
+        Ok(text) => is_told(alloc, text.as_slice(), limit_of(is_one_more)),
+        Err(_) => false,
+    }
 }
 
 /// Whether the end of a body writes types of so many places: with others it is at the limit, and one more exceeds it.
-fn has_places(alloc: Global, end: &str, places: usize) -> Result<bool, AllocError> {
-    Ok(is_told_beside(alloc, end, places, false)? && is_told_beside(alloc, end, places, true)?)
+fn has_places(alloc: Global, end: &'static str, places: usize) -> bool {
+    is_told_beside(alloc, end, places, false) && is_told_beside(alloc, end, places, true)
 }
 
 #[test]
-fn each_type_that_the_end_of_a_body_writes_counts(rt: HostRuntime) -> Result<(), Fail> {
+fn each_type_that_the_end_of_a_body_writes_counts(rt: HostRuntime) {
     for (places, end) in ENDS {
-        let right = has_places(rt.alloc(), end, places)?;
-        assert!(rt; right, "{end}");
+        assert!(rt; has_places(rt.alloc(), end, *places), "{end}");
     }
-    Ok(())
 }
 
 /// The head of a function with a result and a parameter of one place each. The value of a defined variable has a place
@@ -138,33 +133,45 @@ fn add_metadata(alloc: Global, items: &mut [Entity]) -> Result<(), AllocError> {
     Ok(())
 }
 
-/// The module of a text, with such a parameter of each function.
-fn read_with_metadata(alloc: Global, text: &[u8]) -> Result<Option<Module>, AllocError> {
-    match read_items(alloc, text) {
-        Some(items) => {
-            let mut items = items.into_vec();
-            add_metadata(alloc, items.as_mut_slice())?;
-            Ok(Some(module_of(alloc, Entities::from_vec(items))?))
-        }
-        None => Ok(None),
+/// The items of a text, with such a parameter of each function.
+fn items_of(alloc: Global, text: &[u8]) -> Option<Vec<Entity>> {
+    let mut items = read_items(alloc, text)?.into_vec();
+    match add_metadata(alloc, items.as_mut_slice()) {
+        Ok(()) => Some(items),
+        Err(_) => None,
+    }
+}
+
+/// Whether the module of these items exceeds this limit first.
+fn exceed(alloc: Global, items: Vec<Entity>, limit: Option<Count>) -> bool {
+    match module_of(alloc, Entities::from_vec(items)) {
+        Ok(module) => exceeds(alloc, &module, limit),
+        Err(_) => false,
+    }
+}
+
+/// Whether the module of a text, with such a parameter of each function, exceeds this limit first.
+fn is_told_with_metadata(alloc: Global, text: &[u8], limit: Option<Count>) -> bool {
+    match items_of(alloc, text) {
+        Some(items) => exceed(alloc, items, limit),
+        None => false,
     }
 }
 
 /// Whether functions and variables have three places: with others they are at the limit, or exceed it with one more.
-fn have_three_places(alloc: Global, is_one_more: bool) -> Result<bool, AllocError> {
-    let mut text = Vec::new(alloc);
-    push_module(&mut text, TYPED_HEAD, "ret void }", 3, is_one_more)?;
-    match read_with_metadata(alloc, text.as_slice())? {
-        Some(module) => exceeds(alloc, &module, is_one_more.then_some(Count::TypePlaces)),
-        None => Ok(false),
+fn have_three_places(alloc: Global, is_one_more: bool) -> bool {
+    match module_text(alloc, TYPED_HEAD, "ret void }", 3, is_one_more) {
+        Ok(text) => is_told_with_metadata(alloc, text.as_slice(), limit_of(is_one_more)),
+        Err(_) => false,
     }
 }
 
 #[test]
-fn types_of_functions_and_defined_variables_count(rt: HostRuntime) -> Result<(), Fail> {
+fn types_of_functions_and_defined_variables_count(rt: HostRuntime) {
     for is_one_more in [false, true] {
-        let right = have_three_places(rt.alloc(), is_one_more)?;
-        assert!(rt; right, "one more: {is_one_more}");
+        assert!(rt;
+            have_three_places(rt.alloc(), is_one_more),
+            "one more: {is_one_more}"
+        );
     }
-    Ok(())
 }

@@ -6,6 +6,13 @@ use std::alloc::{AllocError, Global};
 /// A piece of a text, and how often it stands there.
 pub(crate) type Piece = (usize, &'static str);
 
+/// The text of these pieces.
+pub(crate) fn text_of(alloc: Global, pieces: &[Piece]) -> Result<Vec<u8>, AllocError> {
+    let mut text = Vec::new(alloc);
+    push_pieces(&mut text, pieces)?;
+    Ok(text)
+}
+
 /// Adds pieces at the end of a text.
 pub(crate) fn push_pieces(text: &mut Vec<u8>, pieces: &[Piece]) -> Result<(), AllocError> {
     for (times, piece) in pieces {
@@ -27,6 +34,12 @@ pub(crate) fn read_items(alloc: Global, text: &[u8]) -> Option<Entities> {
     }
 }
 
+/// Adds an item at the end of a list.
+fn add<T: Drop>(items: &mut Vec<T>, item: T) -> Result<(), AllocError> {
+    items.push(item)?;
+    Ok(())
+}
+
 /// The module of these items, each with its name as it is written. So the text may use a name that nothing defines,
 /// and a number that is not the next one.
 pub(crate) fn module_of(alloc: Global, items: Entities) -> Result<Module, AllocError> {
@@ -35,12 +48,13 @@ pub(crate) fn module_of(alloc: Global, items: Entities) -> Result<Module, AllocE
     let mut functions = Vec::new(alloc);
     let mut aliases = Vec::new(alloc);
     for item in items.into_vec() {
-        match item {
-            Entity::Type(def) => types.push(def)?,
-            Entity::Global(variable) => globals.push(variable)?,
-            Entity::Function(function) => functions.push(function)?,
-            Entity::Alias(alias) => aliases.push(alias)?,
-        }
+        let pushed = match item {
+            Entity::Type(def) => add(&mut types, def),
+            Entity::Global(variable) => add(&mut globals, variable),
+            Entity::Function(function) => add(&mut functions, function),
+            Entity::Alias(alias) => add(&mut aliases, alias),
+        };
+        pushed?;
     }
     Ok(Module {
         types: TypeDefs::from_vec(types),
@@ -51,9 +65,9 @@ pub(crate) fn module_of(alloc: Global, items: Entities) -> Result<Module, AllocE
 }
 
 /// The module of a text, if it is one of the grammar.
-pub(crate) fn read(alloc: Global, text: &[u8]) -> Result<Option<Module>, AllocError> {
+pub(crate) fn read(alloc: Global, text: &[u8]) -> Option<Module> {
     match read_items(alloc, text) {
-        Some(items) => Ok(Some(module_of(alloc, items)?)),
-        None => Ok(None),
+        Some(items) => module_of(alloc, items).ok(),
+        None => None,
     }
 }

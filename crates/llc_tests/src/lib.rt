@@ -5,6 +5,16 @@
 #[cfg(test)]
 mod building;
 #[cfg(test)]
-mod program;
+mod compiling;
+#[cfg(test)]
+mod limits;
+#[cfg(test)]
+mod memory;
+#[cfg(test)]
+mod refusals;
+#[cfg(test)]
+mod running;
+#[cfg(test)]
+mod streams;
 #[cfg(test)]
 mod words;

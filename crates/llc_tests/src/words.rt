@@ -1,10 +1,12 @@
 //! Words of the command line, and what they ask for.
 use llc_words::{Mode, WordsEnd, read_words};
 use std::alloc::{AllocError, Global};
-use std::test::Fail;
 
-/// Words after the program's name, and the mode, the steps and the input that they ask for.
-const READ: [(&[&str], Mode, u64, &str); 12] = [
+/// Words behind the program's name.
+type Words = &'static [&'static str];
+
+/// Words, and the mode, the steps and the input that they ask for.
+const READ: &[(Words, Mode, u64, &str)] = &[
     (&["compile"], Mode::Compile, 100_000_000, ""),
     (&["run"], Mode::Run, 100_000_000, ""),
     (&["run", "--steps", "4"], Mode::Run, 4, ""),
@@ -34,8 +36,8 @@ const READ: [(&[&str], Mode, u64, &str); 12] = [
     (&["--", "run"], Mode::Run, 100_000_000, ""),
 ];
 
-/// Words after the program's name that are refused.
-const REFUSED: [&[&str]; 21] = [
+/// Words that are refused.
+const REFUSED: &[Words] = &[
     &[],
     &["interp"],
     &["Compile"],
@@ -69,50 +71,54 @@ fn line_of(alloc: Global, words: &[&str]) -> Result<Vec<String>, AllocError> {
     Ok(line)
 }
 
-/// Whether words are read, and ask for this.
-fn ask_for(
-    alloc: Global,
-    words: &[&str],
-    mode: Mode,
-    steps: u64,
-    input: &str,
-) -> Result<bool, AllocError> {
-    let line = line_of(alloc, words)?;
-    Ok(match read_words(alloc, &line) {
+/// Whether a command line is read, and asks for this.
+fn is_read(alloc: Global, line: &[String], mode: Mode, steps: u64, input: &str) -> bool {
+    match read_words(alloc, line) {
         Ok(command) => {
-            command.mode() == mode
-                && command.steps() == steps
-                && command.input() == input.as_bytes()
+            (command.mode() == mode)
+                & (command.steps() == steps)
+                & (command.input() == input.as_bytes())
         }
         Err(_) => false,
-    })
+    }
+}
+
+/// Whether words are read, and ask for this.
+fn ask_for(alloc: Global, words: &[&str], mode: Mode, steps: u64, input: &str) -> bool {
+    match line_of(alloc, words) {
+        Ok(line) => is_read(alloc, line.as_slice(), mode, steps, input),
+        Err(_) => false,
+    }
 }
 
 #[test]
-fn words_ask_for_a_mode_steps_and_an_input(rt: HostRuntime) -> Result<(), Fail> {
+fn words_ask_for_a_mode_steps_and_an_input(rt: HostRuntime) {
     for (words, mode, steps, input) in READ {
-        let right = ask_for(rt.alloc(), words, mode, steps, input)?;
+        let right = ask_for(rt.alloc(), words, *mode, *steps, input);
         assert!(rt; right, "{words:?}");
     }
-    Ok(())
-}
-
-/// Whether words are refused.
-fn are_refused(alloc: Global, words: &[&str]) -> Result<bool, AllocError> {
-    let line = line_of(alloc, words)?;
-    Ok(is_refused(alloc, &line))
 }
 
 fn is_refused(alloc: Global, line: &[String]) -> bool {
     matches!(read_words(alloc, line), Err(WordsEnd::Refused))
 }
 
-#[test]
-fn other_words_are_refused(rt: HostRuntime) -> Result<(), Fail> {
-    for words in REFUSED {
-        let right = are_refused(rt.alloc(), words)?;
-        assert!(rt; right, "{words:?}");
+/// Whether words are refused.
+fn are_refused(alloc: Global, words: &[&str]) -> bool {
+    match line_of(alloc, words) {
+        Ok(line) => is_refused(alloc, line.as_slice()),
+        Err(_) => false,
     }
+}
+
+#[test]
+fn other_words_are_refused(rt: HostRuntime) {
+    for words in REFUSED {
+        assert!(rt; are_refused(rt.alloc(), words), "{words:?}");
+    }
+}
+
+#[test]
+fn no_words_at_all_are_refused(rt: HostRuntime) {
     assert!(rt; is_refused(rt.alloc(), &[]));
-    Ok(())
 }

@@ -34,14 +34,11 @@ const JALR_ZERO_0_ZERO: u32 = 0x0000_0067;
 
 const RET: u32 = 0x0000_8067;
 
-/// An image of at most 256 words, without symbols.
+/// An image of these words, without symbols.
 fn image_of(alloc: Global, words: &[u32]) -> Result<Image, AllocError> {
     let mut bytes = Vec::new(alloc);
     for word in words {
         bytes.extend_from_slice(&word.to_le_bytes())?;
-    }
-    if bytes.len() > 1024 {
-        return Err(AllocError);
     }
     Ok(Image {
         bytes: Bytes::from_vec(bytes),

@@ -1,0 +1,105 @@
+//! Modules that are run, and words that ask for it.
+use crate::compiling::ARGUMENT;
+use crate::memory::{Row, answers, first_not_told};
+use llc_top::Status;
+use std::alloc::Global;
+
+/// The words that ask for a run.
+const RUN: &[&str] = &["llc", "run"];
+
+/// Modules, and how their runs end.
+const ENDED: &[Row] = &[
+    (SEVEN, "exit 4294967289\n"),
+    ("define i32 @main() {\n  ret i32 0\n}\n", "exit 0\n"),
+    (
+        "define i64 @f(i64 %x) {\n  ret i64 %x\n}\ndefine i32 @main() {\n  ret i32 2047\n}\n",
+        "exit 2047\n",
+    ),
+];
+
+/// Modules that are not run.
+const REFUSED: &[Row] = &[
+    (ARGUMENT, "llc: refused 14 NoMain\n"),
+    ("declare i32 @main()\n", "llc: refused 14 NoMain\n"),
+    (
+        "define i64 @main() {\n  ret i64 0\n}\n",
+        "llc: refused 15 BadMain\n",
+    ),
+    (
+        "define i32 @main(i32 %x) {\n  ret i32 0\n}\n",
+        "llc: refused 15 BadMain\n",
+    ),
+    (
+        "define i64 @main() {\n  ret i64 2048\n}\n",
+        "llc: refused 18 NotYet 2\n",
+    ),
+];
+
+#[test]
+fn a_main_is_run_to_its_exit(rt: HostRuntime) {
+    assert_eq!(rt; first_not_told(rt.alloc(), RUN, Status::Done, ENDED), None);
+    assert_eq!(rt;
+        first_not_told(rt.alloc(), RUN, Status::Refused, REFUSED),
+        None
+    );
+}
+
+/// A `main` that takes nine steps.
+const SEVEN: &str = "define i32 @main() {\n  ret i32 -7\n}\n";
+
+/// Words of a command line.
+type Words = &'static [&'static str];
+
+/// Words that ask for a run of that `main`, and the line that tells how it ended.
+const STEPS: &[(Words, &str)] = &[
+    (&["llc", "run", "--steps", "0"], "running\n"),
+    (&["llc", "run", "--steps=8"], "running\n"),
+    (&["llc", "run", "--steps=9"], "exit 4294967289\n"),
+    (
+        &["llc", "--steps", "1000000000", "run"],
+        "exit 4294967289\n",
+    ),
+    (&["llc", "run", "--input", "ä"], "exit 4294967289\n"),
+];
+
+/// Words that the program does not know.
+const UNKNOWN: &[(Words, &str)] = &[
+    (&["llc", "compile", "x"], "llc: words\n"),
+    (&["llc", "compile", "--steps", "1000000001"], "llc: words\n"),
+    (&["llc", "run", "--parts", "2"], "llc: words\n"),
+    (&["llc"], "llc: words\n"),
+    (&[], "llc: words\n"),
+];
+
+/// The first of these words to which the program does not answer with this status, or which do not let it tell just
+/// what stands beside them.
+fn first_wrong(
+    alloc: Global,
+    text: &[u8],
+    status: Status,
+    rows: &[(Words, &'static str)],
+) -> Option<Words> {
+    for (words, told) in rows {
+        let wanted = (b"".as_slice(), told.as_bytes());
+        if !answers(alloc, words, text, status, wanted) {
+            return Some(*words);
+        }
+    }
+    None
+}
+
+#[test]
+fn a_run_takes_the_steps_that_the_words_ask_for(rt: HostRuntime) {
+    assert_eq!(rt;
+        first_wrong(rt.alloc(), SEVEN.as_bytes(), Status::Done, STEPS),
+        None
+    );
+}
+
+#[test]
+fn other_words_are_refused(rt: HostRuntime) {
+    assert_eq!(rt;
+        first_wrong(rt.alloc(), ARGUMENT.as_bytes(), Status::Words, UNKNOWN),
+        None
+    );
+}
