@@ -3,8 +3,8 @@
 
 usage: checks/costs.py [--write] COMMAND ..      for example: checks/costs.py --write rt ci --anew
 
-It runs the command, looks twice a second at the prover's processes, and prints a table of the crates: what their
-proofs, their proofs with tests and their must-fail edits took, and all else under `other`. A process's last half
+It runs the command, looks twice a second at the prover's processes below it, and prints a table of the crates: what
+their proofs, their proofs with tests and their must-fail edits took, and all else under `other`. A process's last half
 second may be missed. `--write` puts the table into docs/proving.md, between its two marks.
 """
 import collections
@@ -30,10 +30,31 @@ def kind_of(words, folder):
     return crate, "tests" if "--test" in words else "proof"
 
 
-def processes():
-    """The prover's processes: for each its number with its start, what it is for, and its processor seconds."""
+def parents():
+    """Each process's parent, by their numbers."""
+    found = {}
     for name in os.listdir("/proc"):
-        if not name.isdigit():
+        if name.isdigit():
+            try:
+                with open(f"/proc/{name}/stat") as it:
+                    found[int(name)] = int(it.read().rpartition(")")[2].split()[1])
+            except OSError:
+                continue
+    return found
+
+
+def is_below(number, top, parent_of):
+    """Whether a process was started by another, or by one that this other started, and so on."""
+    while number in parent_of and number != top:
+        number = parent_of[number]
+    return number == top
+
+
+def processes(top):
+    """The prover's processes below one: for each its number with its start, what it is for, and its processor seconds."""
+    parent_of = parents()
+    for name in os.listdir("/proc"):
+        if not name.isdigit() or not is_below(int(name), top, parent_of):
             continue
         try:
             with open(f"/proc/{name}/cmdline", "rb") as it:
@@ -72,13 +93,11 @@ def main():
     if not words:
         print(__doc__.strip())
         return 2
-    before = {key for key, _, _ in processes()}
     seen = {}
     run = subprocess.Popen(words, cwd=TOP)
     while run.poll() is None:
-        for key, what, seconds in processes():
-            if key not in before:
-                seen[key] = what, seconds
+        for key, what, seconds in processes(run.pid):
+            seen[key] = what, seconds
         time.sleep(0.5)
     spent = os.times()
     text = table(seen, spent.children_user + spent.children_system)

@@ -55,7 +55,7 @@ module _ (words : List (List ℕ)) (o : Option Command) (is : command_of words �
   refused_as (Ok asked) end gives never = absurd cc
   refused_as (Err other) end gives ends = is ∙ gives
 
--- an error that is no want of memory refuses the words
+-- an error other than that memory ran out refuses the words
 pub other_refuses : (words : List (List ℕ)) (e : Error) → HasKind (fault_of llc_app words) e → kind_of e ≢ OutOfMemory → command_of words ≡ None
 other_refuses words e (inl memory) other = absurd (other memory)
 other_refuses words e (inr among) other = refused_asks words (kind_of e) among
