@@ -30,6 +30,7 @@ closed_blocks = within block_firsts [] false closed_block_forms
 abbrev pub function_of : ℕ → Linkage → Signature → Option (List Block) → Function
 function_of line linkage s blocks = record {
   line = line;
+  place = 0;
   name = s.1.1.0.name;
   name_line = s.1.1.0.line;
   linkage = linkage;

@@ -43,6 +43,7 @@ fn function_of(
     } = place;
     Function {
         line,
+        place: 0,
         name,
         name_line,
         linkage,

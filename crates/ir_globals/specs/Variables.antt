@@ -115,6 +115,7 @@ definitions = within (class.External ∷ class.Private ∷ class.Internal ∷ cl
 abbrev pub defined_entity : ℕ → Name → Linkage → Visibility → Defined → Entity
 defined_entity line name linkage seen (Variable constant ty init align) = entity.Global (record {
   line = line;
+  place = 0;
   name = name;
   linkage = linkage;
   visibility = seen;
@@ -125,6 +126,7 @@ defined_entity line name linkage seen (Variable constant ty init align) = entity
 })
 defined_entity line name linkage seen (SecondName result params base) = entity.Alias (record {
   line = line;
+  place = 0;
   name = name;
   linkage = linkage;
   visibility = seen;

@@ -40,6 +40,7 @@ pub(crate) fn entity_of(name: NameUse, definition: GlobalDefinition) -> Entity
     match defined {
         Defined::Variable(constant, ty, init, align) => Entity::Global(Global {
             line,
+            place: 0,
             name,
             linkage,
             visibility,
@@ -50,6 +51,7 @@ pub(crate) fn entity_of(name: NameUse, definition: GlobalDefinition) -> Entity
         }),
         Defined::SecondName(result, params, base) => Entity::Alias(Alias {
             line,
+            place: 0,
             name,
             linkage,
             visibility,

@@ -1,5 +1,5 @@
--- The items of a module with their numbers.
-use Rattle.std.specs.Prelude.{ℕ, ◌+◌, List, [], ◌∷◌, map, Option, None, Some}
+-- The items of a module with their places and their numbers.
+use Rattle.std.specs.Prelude.{ℕ, ◌+◌, List, [], ◌∷◌, Option, None, Some}
 use Rattle.std.specs.List.{flat_map}
 use Rattle.ir_entities.specs.declared.entity.Entity.{Entity}
 use Rattle.ir_entities.specs.declared.entity.Entity.TheVariants as entity
@@ -53,9 +53,10 @@ abbrev pub numbered_blocks : ℕ → Option (List Block) → Option (List Block)
 numbered_blocks n None = None
 numbered_blocks n (Some blocks) = Some (each_numbered numbered_block block_sites n blocks)
 
-abbrev pub numbered_function : Function → Function
-numbered_function f = record {
+abbrev pub numbered_function : ℕ → Function → Function
+numbered_function place f = record {
   line = f.line;
+  place = place;
   name = f.name;
   name_line = f.name_line;
   linkage = f.linkage;
@@ -65,11 +66,16 @@ numbered_function f = record {
   blocks = numbered_blocks (unnamed_in (flat_map param_sites f.params)) f.blocks;
 }
 
-abbrev pub numbered_entity : Entity → Entity
-numbered_entity (entity.«Type» t) = entity.«Type» t
-numbered_entity (entity.Global g) = entity.Global g
-numbered_entity (entity.Function f) = entity.Function (numbered_function f)
-numbered_entity (entity.Alias a) = entity.Alias a
+-- an item at its place among all items of a module
+abbrev pub numbered_entity : ℕ → Entity → Entity
+numbered_entity place (entity.«Type» t) = entity.«Type» (record t { place = place })
+numbered_entity place (entity.Global g) = entity.Global (record g { place = place })
+numbered_entity place (entity.Function f) = entity.Function (numbered_function place f)
+numbered_entity place (entity.Alias a) = entity.Alias (record a { place = place })
+
+abbrev pub numbered_after : ℕ → List Entity → List Entity
+numbered_after place [] = []
+numbered_after place (e ∷ entities) = numbered_entity place e ∷ numbered_after (place + 1) entities
 
 abbrev pub numbered_entities : List Entity → List Entity
-numbered_entities entities = map numbered_entity entities
+numbered_entities entities = numbered_after 0 entities

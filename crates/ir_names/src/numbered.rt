@@ -26,7 +26,8 @@ trait Counted: Sized {
         ensures count { OnOk result (count.new ≡ count.old + unnamed_in (sites self.old)) };
 }
 
-/// These items of a module, with a number for each item of a function that has no name.
+/// These items of a module, each with its place among them, and with a number for each item of a function that has no
+/// name.
 pub(crate) fn number_entities(alloc: Global, entities: Entities) -> Result<Entities, AllocError>
     ensures { IfOk result (λ new. new ≡ numbered_entities entities) }
 {
@@ -38,25 +39,31 @@ pub(crate) fn number_entities(alloc: Global, entities: Entities) -> Result<Entit
 fn number_each_entity(alloc: Global, entities: &mut [Entity]) -> Result<(), AllocError>
     ensures { OnOk result (entities.new ≡ numbered_entities entities.old) }
 {
+    let mut place = 0;
     for entity in entities.iter_mut() {
-        number_entity(alloc, entity)?;
+        number_entity(alloc, place, entity)?;
+        place = one_more(place)?;
     }
     Ok(())
 }
 
-fn number_entity(alloc: Global, entity: &mut Entity) -> Result<(), AllocError>
-    ensures { OnOk result (entity.new ≡ numbered_entity entity.old) }
+fn number_entity(alloc: Global, place: u32, entity: &mut Entity) -> Result<(), AllocError>
+    ensures { OnOk result (entity.new ≡ numbered_entity place entity.old) }
 {
     match entity {
-        Entity::Function(function) => number_function(alloc, function),
-        Entity::Type(_) | Entity::Global(_) | Entity::Alias(_) => Ok(()),
+        Entity::Type(ty) => ty.place = place,
+        Entity::Global(global) => global.place = place,
+        Entity::Function(function) => number_function(alloc, place, function)?,
+        Entity::Alias(alias) => alias.place = place,
     }
+    Ok(())
 }
 
-/// Gives each item of a function that has no name its number.
-fn number_function(alloc: Global, function: &mut Function) -> Result<(), AllocError>
-    ensures { OnOk result (function.new ≡ numbered_function function.old) }
+/// Gives a function its place, and each item of it that has no name its number.
+fn number_function(alloc: Global, place: u32, function: &mut Function) -> Result<(), AllocError>
+    ensures { OnOk result (function.new ≡ numbered_function place function.old) }
 {
+    function.place = place;
     let mut count = 0;
     let params = mem::replace(&mut function.params, Params::from_vec(Vec::new(alloc)));
     let params = number_all(alloc, &mut count, params.into_vec())?;
@@ -178,7 +185,7 @@ fn number(count: &mut u32, name: &mut Name) -> Result<(), AllocError>
     Ok(())
 }
 
-/// One more; where there are too many unnamed items to count them, there is no memory for them.
+/// One more; where there are too many items to count them, there is no memory for them.
 fn one_more(count: u32) -> Result<u32, AllocError>
     ensures { IfOk result (λ more. more ≡ count + 1) }
 {

@@ -47,7 +47,7 @@ abbrev pub dropped_entities : Rule (Unit {0})
 dropped_entities = within (class.SourceFilename ∷ class.Target ∷ class.Attributes ∷ class.Meta ∷ []) (class.OpenRound ∷ []) false dropped_forms
 
 abbrev pub type_def_of : NameUse × TextTree → Option Entity
-type_def_of z = Some (entity.Type (record { line = z.0.line; name = z.0.name; body = z.1 }))
+type_def_of z = Some (entity.Type (record { line = z.0.line; place = 0; name = z.0.name; body = z.1 }))
 
 -- LOCAL = "type" struct, of at most 64 brackets inside each other
 unfoldable pub type_def_forms : Rule (Option Entity)

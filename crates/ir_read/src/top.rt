@@ -26,7 +26,13 @@ fn read_type_def<'t>(alloc: Global, rest: Cursor<'t>) -> Result<(Entity, Cursor<
     let rest = word(rest, Class::TypeWord)?;
     let (body, rest) = read_struct(alloc, rest, 63)?;
     let NameUse { line, name } = place;
-    Ok((Entity::Type(TypeDef { line, name, body }), rest))
+    let def = TypeDef {
+        line,
+        place: 0,
+        name,
+        body,
+    };
+    Ok((Entity::Type(def), rest))
 }
 
 /// Reads an item that is kept.

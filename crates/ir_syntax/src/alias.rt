@@ -28,6 +28,8 @@ impl Drop for AliasBase {
 pub struct Alias {
     /// The line of its first token.
     pub line: u32,
+    /// Its place among all items of the module, counted from 0.
+    pub place: u32,
     /// Its name.
     pub name: Name,
     /// Who sees it.
@@ -50,6 +52,7 @@ impl Drop for Alias {
             params,
             base,
             line: _,
+            place: _,
             linkage: _,
             visibility: _,
         } = self;

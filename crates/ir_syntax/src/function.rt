@@ -68,6 +68,8 @@ impl Params {
 pub struct Function {
     /// The line of `define` or `declare`.
     pub line: u32,
+    /// Its place among all items of the module, counted from 0.
+    pub place: u32,
     /// The function's name.
     pub name: Name,
     /// The line of the name's token.

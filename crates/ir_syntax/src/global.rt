@@ -11,6 +11,8 @@ use std::marker::Model;
 pub struct Global {
     /// The line of its first token.
     pub line: u32,
+    /// Its place among all items of the module, counted from 0.
+    pub place: u32,
     /// Its name.
     pub name: Name,
     /// Who sees it.
@@ -34,6 +36,7 @@ impl Drop for Global {
             ty,
             init,
             line: _,
+            place: _,
             linkage: _,
             visibility: _,
             constant: _,

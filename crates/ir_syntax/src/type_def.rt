@@ -9,6 +9,8 @@ use std::marker::Model;
 pub struct TypeDef {
     /// The line of the definition's first token.
     pub line: u32,
+    /// Its place among all items of the module, counted from 0.
+    pub place: u32,
     /// The name.
     pub name: Name,
     /// The struct that it stands for.
@@ -21,6 +23,7 @@ impl Drop for TypeDef {
             name,
             body,
             line: _,
+            place: _,
         } = self;
         drop(name);
         drop(body);

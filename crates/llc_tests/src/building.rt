@@ -9,6 +9,7 @@ use std::alloc::{AllocError, Global};
 fn variable(line: u32, number: u64) -> Variable {
     Variable {
         line,
+        place: number as u32,
         name: Name::Unnamed(ItemNumber::from_u64(number)),
         linkage: Linkage::External,
         visibility: Visibility::Default,

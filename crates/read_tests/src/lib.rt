@@ -6,6 +6,8 @@ mod cuts;
 #[cfg(test)]
 mod parts;
 #[cfg(test)]
+mod places;
+#[cfg(test)]
 mod rows;
 #[cfg(test)]
 mod tables;
