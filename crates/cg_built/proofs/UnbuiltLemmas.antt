@@ -5,7 +5,7 @@ use Rattle.std.specs.List.{flat_map, AllByRecursion as ByRecursion}
 use Rattle.std.proofs.lemmas.Bool.{both_ways, ltb-false, not-false}
 use Rattle.std.proofs.lemmas.List.Elements.{All-from_recursion}
 use Rattle.ir_check.specs.Limits.{exceeded_limit}
-use Rattle.ir_check.specs.declared.limits.Count.TheVariants.{Functions}
+use Rattle.ir_syntax.specs.declared.refusal.Count.TheVariants.{Functions}
 use Rattle.ir_check.specs.Repeated.{function_name_at, local_names, repeated_lines, repeats, type_name}
 use Rattle.ir_syntax.specs.Lines.{line_if}
 use Rattle.ir_sizes.specs.Sized.{unsized_lines}

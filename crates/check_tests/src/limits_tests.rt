@@ -1,7 +1,7 @@
 //! Modules at the limits and just beyond them.
 use crate::modules::{Piece, push_pieces, read, text_of};
-use ir_check::{Count, exceeded_limit};
-use ir_syntax::Module;
+use ir_check::exceeded_limit;
+use ir_syntax::{Count, Module};
 use std::alloc::{AllocError, Global};
 
 /// An instruction of a type of one place.

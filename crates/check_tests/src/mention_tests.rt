@@ -1,10 +1,9 @@
 //! The places of the types that each part of a module writes.
 use crate::limits_tests::{exceeds, is_told};
 use crate::modules::{Piece, module_of, push_pieces, read_items, text_of};
-use ir_check::Count;
 use ir_ident::Name;
 use ir_read::{Entities, Entity};
-use ir_syntax::{Param, Params};
+use ir_syntax::{Count, Param, Params};
 use std::alloc::{AllocError, Global};
 use std::mem;
 

@@ -4,8 +4,8 @@ use Rattle.std.specs.List.{list_any}
 use Rattle.ir_syntax.specs.Definitions.{defined_functions}
 use Rattle.ir_cfg.specs.Sizes.{function_size, module_size}
 use Rattle.ir_mentions.specs.Mentions.{mentioned_places}
-use Rattle.ir_check.specs.declared.limits.Count.{Count}
-use Rattle.ir_check.specs.declared.limits.Count.TheVariants.{Functions, OneFunction, Instructions, Arguments, TypePlaces}
+use Rattle.ir_syntax.specs.declared.refusal.Count.{Count}
+use Rattle.ir_syntax.specs.declared.refusal.Count.TheVariants.{Functions, OneFunction, Instructions, Arguments, TypePlaces}
 use Rattle.ir_syntax.specs.declared.module.Module.{Module}
 
 -- the first limit that is exceeded, in this order

@@ -8,7 +8,7 @@ mod repeated;
 mod reserved;
 mod signatures;
 
-pub use limits::{Count, exceeded_limit};
+pub use limits::exceeded_limit;
 pub use repeated::repeated_lines;
 pub use reserved::{is_label_name, is_reserved};
 pub use signatures::{is_declarable, is_i32};

@@ -5,11 +5,11 @@ ghost use Rattle.ir_syntax.specs.Definitions.{defined_functions, has_body};
 ghost use Rattle.ir_cfg.specs.Sizes.{function_size};
 ghost use Rattle.ir_check.specs.Limits.{exceeded_limit};
 ghost use Rattle.ir_mentions.specs.Mentions.{mentioned_places};
-ghost use Rattle.ir_check.specs.declared.limits.Count.TheVariants.{Instructions, OneFunction};
+ghost use Rattle.ir_syntax.specs.declared.refusal.Count.TheVariants.{Instructions, OneFunction};
 
 use ir_cfg::{function_sizes, total_size};
 use ir_mentions::mentioned_places;
-use ir_syntax::{Function, Module};
+use ir_syntax::{Count, Function, Module};
 use std::alloc::{AllocError, Global};
 
 /// The most functions that a module may define.
@@ -22,21 +22,6 @@ const TOTAL_LIMIT: usize = 262_144;
 const PARAM_LIMIT: usize = 64;
 /// The most places that all mentioned types may have.
 const PLACE_LIMIT: u64 = 4_194_304;
-
-/// What a module has too much of.
-#[derive(Clone, Copy, Debug, PartialEq, Eq)]
-pub enum Count {
-    /// More than 4,096 defined functions.
-    Functions,
-    /// A function of more than 65,536 instructions, phis and terminators, of the blocks that some path reaches.
-    OneFunction,
-    /// More than 262,144 of these in all functions.
-    Instructions,
-    /// A function, defined or declared, of more than 64 parameters.
-    Arguments,
-    /// Types of more than 4,194,304 places in all, each type as often as it is written.
-    TypePlaces,
-}
 
 /// The first limit that a module exceeds, in the order of [`Count`]: 4,096 defined functions; 65,536 instructions, phis
 /// and terminators in one function, of the blocks that some path reaches; 262,144 of these in all functions; 64

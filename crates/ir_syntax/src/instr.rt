@@ -8,7 +8,7 @@ use ir_ident::{Name, NameUse};
 use std::marker::Model;
 
 /// A conversion (LangRef, "Conversion Operations").
-#[derive(Clone, Copy, Debug, PartialEq, Eq)]
+#[derive(Clone, Copy, PartialEq, Eq)]
 pub enum CastOp {
     /// `trunc`.
     Trunc,
@@ -236,42 +236,26 @@ impl Drop for Op {
                 op: _,
                 nuw: _,
                 nsw: _,
-            } => {
-                drop(ty);
-                drop(left);
-                drop(right);
             }
-            Op::Exact {
+            | Op::Exact {
                 ty,
                 left,
                 right,
                 op: _,
                 exact: _,
-            } => {
-                drop(ty);
-                drop(left);
-                drop(right);
             }
-            Op::Bitwise {
+            | Op::Bitwise {
                 ty,
                 left,
                 right,
                 op: _,
-            } => {
-                drop(ty);
-                drop(left);
-                drop(right);
             }
-            Op::Icmp {
+            | Op::Icmp {
                 ty,
                 left,
                 right,
                 pred: _,
-            } => {
-                drop(ty);
-                drop(left);
-                drop(right);
-            }
+            } => drop_pair(ty, left, right),
             Op::Select {
                 condition_ty,
                 condition,
@@ -280,12 +264,9 @@ impl Drop for Op {
                 else_ty,
                 else_value,
             } => {
-                drop(condition_ty);
-                drop(condition);
-                drop(then_ty);
-                drop(then_value);
-                drop(else_ty);
-                drop(else_value);
+                drop_value(condition_ty, condition);
+                drop_value(then_ty, then_value);
+                drop_value(else_ty, else_value);
             }
             Op::Cast {
                 from,
@@ -293,14 +274,10 @@ impl Drop for Op {
                 to,
                 op: _,
             } => {
-                drop(from);
-                drop(value);
+                drop_value(from, value);
                 drop(to);
             }
-            Op::Freeze { ty, value } => {
-                drop(ty);
-                drop(value);
-            }
+            Op::Freeze { ty, value } => drop_value(ty, value),
             Op::Gep {
                 ty,
                 base_ty,
@@ -309,8 +286,7 @@ impl Drop for Op {
                 inbounds: _,
             } => {
                 drop(ty);
-                drop(base_ty);
-                drop(base);
+                drop_value(base_ty, base);
                 drop(indices);
             }
             Op::Load {
@@ -320,8 +296,7 @@ impl Drop for Op {
                 align: _,
             } => {
                 drop(ty);
-                drop(address_ty);
-                drop(address);
+                drop_value(address_ty, address);
             }
             Op::Store {
                 ty,
@@ -330,10 +305,8 @@ impl Drop for Op {
                 address,
                 align: _,
             } => {
-                drop(ty);
-                drop(value);
-                drop(address_ty);
-                drop(address);
+                drop_value(ty, value);
+                drop_value(address_ty, address);
             }
             Op::Alloca {
                 ty,
@@ -356,6 +329,19 @@ impl Drop for Op {
             }
         }
     }
+}
+
+/// Drops an operand, and the type in front of it.
+fn drop_value(ty: TyText, value: Operand) {
+    drop(ty);
+    drop(value);
+}
+
+/// Drops two operands, and their type.
+fn drop_pair(ty: TyText, left: Operand, right: Operand) {
+    drop(ty);
+    drop(left);
+    drop(right);
 }
 
 /// An instruction.

@@ -41,7 +41,7 @@ pub use operand::{
     ConstantGep, GepParts, Operand, TypedLiteral, TypedLiterals, TypedOperand, TypedOperands,
 };
 pub use phi::{Phi, PhiEntries, PhiEntry, Phis};
-pub use refusal::Refusal;
+pub use refusal::{Count, Refusal};
 pub use term::{Case, Cases, Term};
 pub use tree::{TypeNode, TypeTree, TypeTreeList};
 pub use ty::{TyText, TypeTexts};

@@ -1,7 +1,7 @@
 //! Who sees a name, and how.
 
 /// Who sees a name (LangRef, "Linkage Types").
-#[derive(Clone, Copy, Debug, PartialEq, Eq)]
+#[derive(Clone, Copy, PartialEq, Eq)]
 pub enum Linkage {
     /// Every part of the program.
     External,
@@ -10,7 +10,7 @@ pub enum Linkage {
 }
 
 /// How a name is seen from outside the linked image (LangRef, "Visibility Styles").
-#[derive(Clone, Copy, Debug, PartialEq, Eq)]
+#[derive(Clone, Copy, PartialEq, Eq)]
 pub enum Visibility {
     /// As the object format has it by default.
     Default,

@@ -1,7 +1,7 @@
 //! Integer literals (LangRef, "Simple Constants").
 
 /// An integer literal: a sign and a magnitude. Its value is read modulo 2 to its type's width.
-#[derive(Clone, Copy, Debug, PartialEq, Eq)]
+#[derive(Clone, Copy, PartialEq, Eq)]
 pub struct Literal {
     /// Whether a minus stands before the digits.
     pub negative: bool,

@@ -1,8 +1,23 @@
 //! Why a text is refused.
 use crate::bytes::Bytes;
 
+/// What a module has too much of.
+#[derive(Clone, Copy, PartialEq, Eq)]
+pub enum Count {
+    /// More than 4,096 defined functions.
+    Functions,
+    /// A function of more than 65,536 instructions, phis and terminators, of the blocks that some path reaches.
+    OneFunction,
+    /// More than 262,144 of these in all functions.
+    Instructions,
+    /// A function, defined or declared, of more than 64 parameters.
+    Arguments,
+    /// Types of more than 4,194,304 places in all, each type as often as it is written.
+    TypePlaces,
+}
+
 /// Why a text is refused. The answer is the first of these that holds, in the order that they stand in here.
-#[derive(Debug, Drop)]
+#[derive(Drop)]
 pub enum Refusal {
     /// Number 1: more than 16,777,216 bytes were read.
     TooLong {

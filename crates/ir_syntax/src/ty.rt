@@ -148,7 +148,7 @@ impl TypeTexts {
     }
 
     /// The types in order, to be taken apart.
-    pub fn into_vec(self) -> Vec<TyText>
+    fn into_vec(self) -> Vec<TyText>
         ensures { result.items ≡ self }
     {
         self.types

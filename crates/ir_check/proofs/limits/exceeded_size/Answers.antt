@@ -3,7 +3,7 @@ use Rattle.std.specs.List.{list_any, sum, sum_by}
 use Rattle.ir_check.proofs.SizeLemmas.{above-same, first-arm, last-arm, second-arm, total-same}
 use Rattle.ir_cfg.specs.Capped.{capped}
 use Rattle.ir_cfg.specs.Sizes.{function_size}
-use Rattle.ir_check.specs.declared.limits.Count.TheVariants.{Instructions, OneFunction}
+use Rattle.ir_syntax.specs.declared.refusal.Count.TheVariants.{Instructions, OneFunction}
 use Rattle.ir_check.proofs.limits.exceeded_size.Goals as goal
 
 pub returns-then-is_any_above : goal.returns-then-is_any_above
