@@ -71,3 +71,11 @@ pub(crate) fn read(alloc: Global, text: &[u8]) -> Option<Module> {
         None => None,
     }
 }
+
+/// The module of a text of these pieces, if it is one of the grammar.
+pub(crate) fn read_pieces(alloc: Global, pieces: &[Piece]) -> Option<Module> {
+    match text_of(alloc, pieces) {
+        Ok(text) => read(alloc, text.as_slice()),
+        Err(_) => None,
+    }
+}

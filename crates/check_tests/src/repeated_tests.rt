@@ -1,5 +1,5 @@
 //! Names that are defined twice, in small modules.
-use crate::modules::{Piece, read, text_of};
+use crate::modules::{Piece, read_pieces};
 use ir_check::repeated_lines;
 use ir_syntax::Module;
 use std::alloc::Global;
@@ -140,19 +140,11 @@ fn repeats_at(alloc: Global, module: &Module, lines: &[u32]) -> bool {
     }
 }
 
-/// Whether a text is read, and defines names again at these lines.
-fn is_told(alloc: Global, text: &[u8], lines: &[u32]) -> bool {
-    match read(alloc, text) {
-        Some(module) => repeats_at(alloc, &module, lines),
-        None => false,
-    }
-}
-
 /// Whether a text of these pieces defines names again at these lines.
 fn is_told_of(alloc: Global, pieces: &[Piece], lines: &[u32]) -> bool {
-    match text_of(alloc, pieces) {
-        Ok(text) => is_told(alloc, text.as_slice(), lines),
-        Err(_) => false,
+    match read_pieces(alloc, pieces) {
+        Some(module) => repeats_at(alloc, &module, lines),
+        None => false,
     }
 }
 

@@ -1,5 +1,5 @@
 //! Definitions of types, and which of them have no size.
-use crate::modules::{Piece, read, text_of};
+use crate::modules::{Piece, read, read_pieces};
 use ir_sizes::unsized_lines;
 use ir_syntax::Module;
 use itoa::Buffer;
@@ -82,9 +82,9 @@ fn is_told(alloc: Global, text: &[u8], lines: &[u32]) -> bool {
 
 /// Whether these are the lines of the types without a size in a text of these pieces.
 fn is_told_of(alloc: Global, pieces: &[Piece], lines: &[u32]) -> bool {
-    match text_of(alloc, pieces) {
-        Ok(text) => is_told(alloc, text.as_slice(), lines),
-        Err(_) => false,
+    match read_pieces(alloc, pieces) {
+        Some(module) => are_unsized(alloc, &module, lines),
+        None => false,
     }
 }
 
