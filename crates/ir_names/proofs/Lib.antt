@@ -1,4 +1,5 @@
 pub mod Counts
 pub mod FaultLemmas
 pub mod Lines
+pub mod PlaceLemmas
 pub mod SetLemmas

@@ -11,4 +11,4 @@ mod parts;
 mod resolving;
 
 pub use end::NamesEnd;
-pub use resolving::resolve;
+pub use resolving::{items_keep_their_order, resolve};

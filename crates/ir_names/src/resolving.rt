@@ -1,5 +1,6 @@
 //! The names of a whole module.
-ghost use Rattle.std.specs.Prelude.{◌≡◌, [], IfErr, IfOk, OnOk};
+ghost use Rattle.std.specs.Prelude.{◌≡◌, [], List, IfErr, IfOk, OnOk};
+ghost use Rattle.ir_entities.specs.declared.entity.Entity.{Entity};
 ghost use Rattle.ir_names.specs.Answers.{IsFirstFault};
 ghost use Rattle.ir_names.specs.Faults.{fault_lines};
 ghost use Rattle.ir_names.specs.Modules.{module_of};
@@ -13,8 +14,8 @@ use ir_entities::Entities;
 use ir_syntax::Module;
 use std::alloc::{AllocError, Global};
 
-/// The module of these items, in the order of the text, with a number for each item of a function that has no
-/// name (LangRef, "Identifiers").
+/// The module of these items, in the order of the text, each with its place among all of them, and with a number for each
+/// item of a function that has no name (LangRef, "Identifiers").
 ///
 /// # Errors
 ///
@@ -39,6 +40,13 @@ pub fn resolve(alloc: Global, entities: Entities) -> Result<Module, NamesEnd>
         Err(_) => Err(NamesEnd::NoMemory),
     }
 }
+
+/// The items of a module keep their order among items of all kinds: no other items, with their places and numbers, make
+/// the same module.
+pub fn items_keep_their_order()
+    ensures { (es others : List Entity) → module_of (numbered_entities es) ≡ module_of (numbered_entities others) →
+        numbered_entities es ≡ numbered_entities others }
+{}
 
 /// The module of these items.
 fn module_from(alloc: Global, entities: Entities) -> Result<Module, AllocError>
