@@ -2,19 +2,16 @@
 use Rattle.std.proofs.Common.{◌∙◌, sym, ap}
 use base.Stored.{Coded}
 use Rattle.ir_ident.specs.Codes.{use_code, use_back, use_back_code}
-use Rattle.std.specs.Prelude.{ℕ, Bool, Option, None, Some, List, [], ◌∷◌, ◌++◌, map, if◌then◌else◌}
+use Rattle.std.specs.Prelude.{ℕ, Bool, List, [], ◌∷◌, ◌++◌, map, if◌then◌else◌}
 use Rattle.std.specs.List.{flat_map, list_any}
 use Rattle.ir_ident.specs.Names.{same_name}
 use Rattle.ir_syntax.specs.Lines.{line_if}
-use Rattle.ir_syntax.specs.declared.block.Block.{Block}
 use Rattle.ir_syntax.specs.declared.function.Function.{Function}
-use Rattle.ir_syntax.specs.declared.function.Param.{Param}
-use Rattle.ir_syntax.specs.declared.instr.Instr.{Instr}
 use Rattle.ir_syntax.specs.declared.module.Module.{Module}
 use Rattle.ir_ident.specs.declared.name.Name.{Name}
 use Rattle.ir_ident.specs.declared.name.NameUse.{NameUse}
-use Rattle.ir_syntax.specs.declared.phi.Phi.{Phi}
 use Rattle.ir_syntax.specs.declared.type_def.TypeDef.{TypeDef}
+use Rattle.ir_walk.specs.Locals.{Local, value_local, label_local, in_function}
 
 -- a name with the line of the first token of what it is defined for
 abbrev pub defined_at : ℕ → Name → NameUse
@@ -30,30 +27,14 @@ type_name t = defined_at t.line t.name
 abbrev pub function_name_at : Function → NameUse
 function_name_at f = defined_at f.line f.name
 
-abbrev pub param_name : Param → NameUse
-param_name p = defined_at p.line p.name
-
-abbrev pub phi_name : Phi → NameUse
-phi_name p = defined_at p.line p.result
-
-abbrev pub result_names : ℕ → Option Name → List NameUse
-result_names line None = []
-result_names line (Some name) = defined_at line name ∷ []
-
-abbrev pub instr_names : Instr → List NameUse
-instr_names i = result_names i.line i.result
-
--- a block's label, and the results of its phis and instructions
-abbrev pub block_names : Block → List NameUse
-block_names b = defined_at b.line b.label ∷ (map phi_name b.phis ++ flat_map instr_names b.instrs)
-
-abbrev pub body_names : Option (List Block) → List NameUse
-body_names None = []
-body_names (Some blocks) = flat_map block_names blocks
+-- a local name
+abbrev pub names_in : Local → List NameUse
+names_in (value_local line name_line name) = defined_at line name ∷ []
+names_in (label_local line name) = defined_at line name ∷ []
 
 -- the local names of a function: labels and values share one space
 abbrev pub local_names : Function → List NameUse
-local_names f = map param_name f.params ++ body_names f.blocks
+local_names f = in_function names_in f
 
 -- whether a name is among these
 abbrev pub is_among : List NameUse → Name → Bool

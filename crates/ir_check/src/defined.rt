@@ -1,11 +1,12 @@
 //! Names with the lines of what they are defined for.
-ghost use Rattle.std.specs.Prelude.{◌≡◌, ◌++◌, ◌∷◌, [], map, OnOk};
-ghost use Rattle.std.specs.List.{flat_map};
-ghost use Rattle.ir_check.specs.Repeated.{block_names, body_names, defined_at, function_name_at, instr_names, local_names, param_name, phi_name, type_name};
+ghost use Rattle.std.specs.Prelude.{◌≡◌, ◌++◌, ◌∷◌, [], map, IfOk, OnOk};
+ghost use Rattle.ir_ident.specs.declared.name.NameUse.{NameUse};
+ghost use Rattle.ir_check.specs.Repeated.{defined_at, function_name_at, local_names, names_in, type_name};
 
 use ir_ident::Name;
-use ir_syntax::{Block, Blocks, Function, Instr, Param, Phi, TypeDef};
-use std::alloc::AllocError;
+use ir_syntax::{Function, TypeDef};
+use ir_walk::{LocalVisitor, walk_locals};
+use std::alloc::{AllocError, Global};
 use std::marker::Model;
 
 /// A name, and the line of the first token of what it is defined for. Contracts see it as a name that is used.
@@ -60,75 +61,38 @@ pub(crate) fn push_functions<'a>(
     Ok(())
 }
 
-/// Adds the local names of a function, in order.
-pub(crate) fn push_locals<'a>(
-    names: &mut Vec<Defined<'a>>,
+/// Names that a walk finds, in order.
+#[derive(Drop)]
+pub(crate) struct Names<'a> {
+    pub(crate) names: Vec<Defined<'a>>,
+}
+
+impl<'a> LocalVisitor<'a> for Names<'a> {
+    ghost Found = { NameUse };
+
+    ghost of_local = { names_in };
+
+    ghost found = { λ n. n.names.items };
+
+    fn value(&mut self, line: u32, _name_line: u32, name: &'a Name) -> Result<(), AllocError> {
+        push(&mut self.names, line, name)
+    }
+
+    fn label(&mut self, line: u32, name: &'a Name) -> Result<(), AllocError> {
+        push(&mut self.names, line, name)
+    }
+}
+
+/// The local names of a function, in order.
+pub(crate) fn locals_of<'a>(
+    alloc: Global,
     function: &'a Function,
-) -> Result<(), AllocError>
-    ensures { OnOk result (names.new.items ≡ names.old.items ++ local_names function.now) }
+) -> Result<Vec<Defined<'a>>, AllocError>
+    ensures { IfOk result (λ names. names.items ≡ local_names function.now) }
 {
-    push_params(names, function.params.as_slice())?;
-    push_body(names, &function.blocks)
-}
-
-fn push_params<'a>(names: &mut Vec<Defined<'a>>, params: &'a [Param]) -> Result<(), AllocError>
-    ensures { OnOk result (names.new.items ≡ names.old.items ++ map param_name params.now) }
-{
-    for param in params {
-        push(names, param.line, &param.name)?;
-    }
-    Ok(())
-}
-
-fn push_body<'a>(names: &mut Vec<Defined<'a>>, blocks: &'a Option<Blocks>) -> Result<(), AllocError>
-    ensures { OnOk result (names.new.items ≡ names.old.items ++ body_names blocks.now) }
-{
-    match blocks {
-        Some(blocks) => push_blocks(names, blocks.as_slice()),
-        None => Ok(()),
-    }
-}
-
-fn push_blocks<'a>(names: &mut Vec<Defined<'a>>, blocks: &'a [Block]) -> Result<(), AllocError>
-    ensures { OnOk result (names.new.items ≡ names.old.items ++ flat_map block_names blocks.now) }
-{
-    for block in blocks {
-        push_block(names, block)?;
-    }
-    Ok(())
-}
-
-fn push_block<'a>(names: &mut Vec<Defined<'a>>, block: &'a Block) -> Result<(), AllocError>
-    ensures { OnOk result (names.new.items ≡ names.old.items ++ block_names block.now) }
-{
-    push(names, block.line, &block.label)?;
-    push_phis(names, block.phis.as_slice())?;
-    push_instrs(names, block.instrs.as_slice())
-}
-
-fn push_phis<'a>(names: &mut Vec<Defined<'a>>, phis: &'a [Phi]) -> Result<(), AllocError>
-    ensures { OnOk result (names.new.items ≡ names.old.items ++ map phi_name phis.now) }
-{
-    for phi in phis {
-        push(names, phi.line, &phi.result)?;
-    }
-    Ok(())
-}
-
-fn push_instrs<'a>(names: &mut Vec<Defined<'a>>, instrs: &'a [Instr]) -> Result<(), AllocError>
-    ensures { OnOk result (names.new.items ≡ names.old.items ++ flat_map instr_names instrs.now) }
-{
-    for instr in instrs {
-        push_result(names, instr)?;
-    }
-    Ok(())
-}
-
-fn push_result<'a>(names: &mut Vec<Defined<'a>>, instr: &'a Instr) -> Result<(), AllocError>
-    ensures { OnOk result (names.new.items ≡ names.old.items ++ instr_names instr.now) }
-{
-    match &instr.result {
-        Some(name) => push(names, instr.line, name),
-        None => Ok(()),
-    }
+    let mut locals = Names {
+        names: Vec::new(alloc),
+    };
+    walk_locals(function, &mut locals)?;
+    Ok(locals.names)
 }

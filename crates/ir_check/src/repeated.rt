@@ -7,7 +7,7 @@ ghost use Rattle.ir_ident.specs.declared.name.Name.{Name};
 ghost use Rattle.ir_check.specs.Repeated.{function_name_at, is_among, local_names, repeated_lines, repeats, type_name};
 ghost use Rattle.ir_syntax.specs.Lines.{line_if};
 
-use crate::defined::{Defined, push_functions, push_locals, push_types};
+use crate::defined::{Defined, locals_of, push_functions, push_types};
 use ir_ident::{Name, NameSet};
 use ir_syntax::{Function, Module, TypeDef, push_line_if};
 use std::alloc::{AllocError, Global};
@@ -68,8 +68,7 @@ fn push_repeated_in(
 ) -> Result<(), AllocError>
     ensures { OnOk result (lines.new.items ≡ lines.old.items ++ repeats (local_names function.now)) }
 {
-    let mut names = Vec::new(alloc);
-    push_locals(&mut names, function)?;
+    let names = locals_of(alloc, function)?;
     push_repeats(alloc, lines, names.as_slice())
 }
 

@@ -1,46 +1,47 @@
 -- Where the names of a module are defined.
-use Rattle.std.specs.Prelude.{ℕ, List, [], ◌∷◌, ◌++◌, Option, None, Some}
-use Rattle.std.specs.List.{flat_map}
+use Rattle.std.specs.Prelude.{ℕ, List, [], ◌∷◌, Option}
 use Rattle.ir_entities.specs.declared.entity.Entity.{Entity}
 use Rattle.ir_entities.specs.declared.entity.Entity.TheVariants as entity
 use Rattle.ir_entities.specs.declared.site.NameKind.TheVariants as kind
 use Rattle.ir_entities.specs.Sites.{Site}
-use Rattle.ir_entities.specs.Uses.{maybe_uses}
 use Rattle.ir_syntax.specs.declared.block.Block.{Block}
-use Rattle.ir_syntax.specs.declared.function.Function as function
+use Rattle.ir_syntax.specs.declared.function.Function.{Function}
 use Rattle.ir_syntax.specs.declared.function.Param.{Param}
 use Rattle.ir_syntax.specs.declared.instr.Instr.{Instr}
 use Rattle.ir_ident.specs.declared.name.Name.{Name}
 use Rattle.ir_syntax.specs.declared.phi.Phi.{Phi}
+use Rattle.ir_walk.specs.Locals.{Local, value_local, label_local, in_param, in_phi, in_result, in_instr, in_block, in_function}
 
 -- a value at a line
 abbrev pub value_at : ℕ → Name → Site
 value_at line name = (kind.Value, record { line = line; name = name })
 
+-- the place where a local name is defined
+abbrev pub local_sites : Local → List Site
+local_sites (value_local line name_line name) = value_at name_line name ∷ []
+local_sites (label_local line name) = (kind.Block, record { line = line; name = name }) ∷ []
+
 abbrev pub param_sites : Param → List Site
-param_sites p = value_at p.name_line p.name ∷ []
+param_sites p = in_param local_sites p
 
 abbrev pub phi_sites : Phi → List Site
-phi_sites p = value_at p.line p.result ∷ []
+phi_sites p = in_phi local_sites p
 
--- an instruction without a result is no item
 abbrev pub result_sites : ℕ → Option Name → List Site
-result_sites line None = []
-result_sites line (Some name) = value_at line name ∷ []
+result_sites line name = in_result local_sites line name
 
 abbrev pub instr_sites : Instr → List Site
-instr_sites i = result_sites i.line i.result
+instr_sites i = in_instr local_sites i
 
 abbrev pub label_sites : Block → List Site
-label_sites b = (kind.Block, record { line = b.line; name = b.label }) ∷ []
+label_sites b = local_sites (label_local b.line b.label)
 
--- a block's label, and the results of its phis and instructions
 abbrev pub block_sites : Block → List Site
-block_sites b = label_sites b ++ (flat_map phi_sites b.phis ++ flat_map instr_sites b.instrs)
+block_sites b = in_block local_sites b
 
 -- the items of a function in the order of the text
-abbrev pub items_of : function.Function → List Site
-items_of f = flat_map param_sites f.params ++ maybe_uses (flat_map block_sites) f.blocks
+abbrev pub items_of : Function → List Site
+items_of f = in_function local_sites f
 
 abbrev pub entity_items : Entity → List Site
 entity_items (entity.«Type» t) = []

@@ -8,7 +8,6 @@ use Rattle.ir_syntax.specs.declared.operand.ConstantGep.{ConstantGep}
 use Rattle.ir_syntax.specs.declared.operand.Operand.{Operand}
 use Rattle.ir_syntax.specs.declared.operand.Operand.TheVariants.{Local, Global, Int, True, False, Null, Undef, Poison, Gep}
 use Rattle.ir_syntax.specs.declared.operand.TypedLiteral.{TypedLiteral}
-use Rattle.ir_syntax.specs.declared.operand.TypedOperand.{TypedOperand}
 use Rattle.ir_syntax.specs.Inits.{InitText, value, zeros, bytes, array, struct, packed, InitTexts, end, more}
 
 abbrev pub literal_uses : TypedLiteral → List Site
@@ -28,18 +27,15 @@ operand_uses Null = []
 operand_uses Undef = []
 operand_uses Poison = []
 
-abbrev pub typed_uses : TypedOperand → List Site
-typed_uses o = type_uses o.ty ++ operand_uses o.value
-
 abbrev mutual
   pub init_uses : InitText → List Site
   init_uses zeros = []
   init_uses (value operand) = operand_uses operand
   init_uses (bytes text) = []
-  init_uses (array parts) = part_uses parts
-  init_uses (struct parts) = part_uses parts
-  init_uses (packed parts) = part_uses parts
+  init_uses (array parts) = element_uses parts
+  init_uses (struct parts) = element_uses parts
+  init_uses (packed parts) = element_uses parts
 
-  pub part_uses : InitTexts → List Site
-  part_uses end = []
-  part_uses (more ty init tail) = type_uses ty ++ (init_uses init ++ part_uses tail)
+  pub element_uses : InitTexts → List Site
+  element_uses end = []
+  element_uses (more ty init tail) = type_uses ty ++ (init_uses init ++ element_uses tail)

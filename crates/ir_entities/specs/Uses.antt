@@ -21,11 +21,3 @@ abbrev mutual
 abbrev pub maybe_uses : {A : Type 0} → (A → List Site) → Option A → List Site
 maybe_uses uses None = []
 maybe_uses uses (Some x) = uses x
-
--- those of a type that isn't written for `void`
-abbrev pub result_uses : Option TextTree → List Site
-result_uses ty = maybe_uses type_uses ty
-
--- those of types in a list that may be left out
-abbrev pub signature_uses : Option (List TextTree) → List Site
-signature_uses types = maybe_uses (flat_map type_uses) types

@@ -1,14 +1,14 @@
 //! Where the names of a module are defined.
-ghost use Rattle.std.specs.Prelude.{◌≡◌, ◌++◌, ◌∷◌, [], OnOk};
+ghost use Rattle.std.specs.Prelude.{◌≡◌, ◌++◌, IfOk, OnOk};
 ghost use Rattle.std.specs.List.{flat_map};
-ghost use Rattle.ir_entities.specs.Items.{block_sites, entity_items, entity_sites, instr_sites, items_of, label_sites, param_sites, phi_sites, result_sites};
-ghost use Rattle.ir_entities.specs.Uses.{maybe_uses};
+ghost use Rattle.ir_entities.specs.Items.{entity_items, entity_sites, local_sites};
+ghost use Rattle.ir_entities.specs.Sites.{Site};
 
 use crate::entity::Entity;
-use crate::site::{NameKind, Site};
+use crate::site::{NameKind, Site, Sites, push_site};
 use ir_ident::Name;
-use ir_syntax::{Block, Blocks, Function, Instr, Param, Phi};
-use std::alloc::AllocError;
+use ir_walk::{LocalVisitor, walk_locals};
+use std::alloc::{AllocError, Global};
 
 /// Adds where the names of these entities are defined, in order: types, globals, functions and aliases.
 ///
@@ -40,95 +40,33 @@ fn push_item<'a>(sites: &mut Vec<Site<'a>>, entity: &'a Entity) -> Result<(), Al
     }
 }
 
-/// Adds where the names in a function are defined: parameters, blocks and results. No other entity has any.
+impl<'a> LocalVisitor<'a> for Sites<'a> {
+    ghost Found = { Site };
+
+    ghost of_local = { local_sites };
+
+    ghost found = { λ s. s.sites.items };
+
+    fn value(&mut self, _line: u32, name_line: u32, name: &'a Name) -> Result<(), AllocError> {
+        push_site(&mut self.sites, NameKind::Value, name_line, name)
+    }
+
+    fn label(&mut self, line: u32, name: &'a Name) -> Result<(), AllocError> {
+        push_site(&mut self.sites, NameKind::Block, line, name)
+    }
+}
+
+/// Where the names in a function are defined, in order: parameters, blocks and results. No other entity has any.
 ///
 /// # Errors
 ///
 /// [`AllocError`].
-pub fn push_locals<'a>(sites: &mut Vec<Site<'a>>, entity: &'a Entity) -> Result<(), AllocError>
-    ensures { OnOk result (sites.new.items ≡ sites.old.items ++ entity_items entity.now) }
+pub fn locals_of<'a>(alloc: Global, entity: &'a Entity) -> Result<Vec<Site<'a>>, AllocError>
+    ensures { IfOk result (λ sites. sites.items ≡ entity_items entity.now) }
 {
-    match entity {
-        Entity::Function(function) => push_function(sites, function),
-        Entity::Type(_) | Entity::Global(_) | Entity::Alias(_) => Ok(()),
+    let mut locals = Sites::new(alloc);
+    if let Entity::Function(function) = entity {
+        walk_locals(function, &mut locals)?;
     }
-}
-
-fn push_function<'a>(sites: &mut Vec<Site<'a>>, function: &'a Function) -> Result<(), AllocError>
-    ensures { OnOk result (sites.new.items ≡ sites.old.items ++ items_of function.now) }
-{
-    push_params(sites, function.params.as_slice())?;
-    push_body(sites, &function.blocks)
-}
-
-fn push_params<'a>(sites: &mut Vec<Site<'a>>, params: &'a [Param]) -> Result<(), AllocError>
-    ensures { OnOk result (sites.new.items ≡ sites.old.items ++ flat_map param_sites params.now) }
-{
-    for param in params {
-        push_site(sites, NameKind::Value, param.name_line, &param.name)?;
-    }
-    Ok(())
-}
-
-fn push_body<'a>(sites: &mut Vec<Site<'a>>, blocks: &'a Option<Blocks>) -> Result<(), AllocError>
-    ensures { OnOk result (sites.new.items ≡ sites.old.items ++ maybe_uses (flat_map block_sites) blocks.now) }
-{
-    match blocks {
-        Some(blocks) => push_blocks(sites, blocks.as_slice()),
-        None => Ok(()),
-    }
-}
-
-fn push_blocks<'a>(sites: &mut Vec<Site<'a>>, blocks: &'a [Block]) -> Result<(), AllocError>
-    ensures { OnOk result (sites.new.items ≡ sites.old.items ++ flat_map block_sites blocks.now) }
-{
-    for block in blocks {
-        push_site(sites, NameKind::Block, block.line, &block.label)?;
-        push_phis(sites, block.phis.as_slice())?;
-        push_instrs(sites, block.instrs.as_slice())?;
-    }
-    Ok(())
-}
-
-fn push_phis<'a>(sites: &mut Vec<Site<'a>>, phis: &'a [Phi]) -> Result<(), AllocError>
-    ensures { OnOk result (sites.new.items ≡ sites.old.items ++ flat_map phi_sites phis.now) }
-{
-    for phi in phis {
-        push_site(sites, NameKind::Value, phi.line, &phi.result)?;
-    }
-    Ok(())
-}
-
-fn push_instrs<'a>(sites: &mut Vec<Site<'a>>, instrs: &'a [Instr]) -> Result<(), AllocError>
-    ensures { OnOk result (sites.new.items ≡ sites.old.items ++ flat_map instr_sites instrs.now) }
-{
-    for instr in instrs {
-        push_result(sites, instr.line, &instr.result)?;
-    }
-    Ok(())
-}
-
-fn push_result<'a>(
-    sites: &mut Vec<Site<'a>>,
-    line: u32,
-    name: &'a Option<Name>,
-) -> Result<(), AllocError>
-    ensures { OnOk result (sites.new.items ≡ sites.old.items ++ result_sites line name.now) }
-{
-    match name {
-        Some(name) => push_site(sites, NameKind::Value, line, name),
-        None => Ok(()),
-    }
-}
-
-fn push_site<'a>(
-    sites: &mut Vec<Site<'a>>,
-    kind: NameKind,
-    line: u32,
-    name: &'a Name,
-) -> Result<(), AllocError>
-    ensures { OnOk result (sites.new.items ≡ sites.old.items ++ (kind, record { line = line; name = name.now }) ∷ []) }
-{
-    sites.push(Site { kind, line, name })?;
-    Ok(())
+    Ok(locals.sites)
 }

@@ -8,6 +8,6 @@ mod site;
 mod uses;
 
 pub use entity::{Entities, Entity};
-pub use items::{push_locals, push_top_level};
+pub use items::{locals_of, push_top_level};
 pub use site::{NameKind, Site};
-pub use uses::push_uses;
+pub use uses::uses_of;

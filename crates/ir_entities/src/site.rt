@@ -2,7 +2,7 @@
 ghost use Rattle.std.specs.Prelude.{◌≡◌, ◌++◌, ◌∷◌, [], OnOk};
 
 use ir_ident::{Name, NameUse};
-use std::alloc::AllocError;
+use std::alloc::{AllocError, Global};
 use std::marker::Model;
 
 /// What a name is of: names of two kinds are never one (LangRef, "Identifiers").
@@ -39,6 +39,36 @@ impl<'a> Model for Site<'a> {
     ghost view = { λ s. (s.kind, record { line = s.line; name = s.name.now }) };
 }
 
+/// Places where names stand, in order, as walks find them.
+#[derive(Drop)]
+pub(crate) struct Sites<'a> {
+    pub(crate) sites: Vec<Site<'a>>,
+}
+
+impl<'a> Sites<'a> {
+    /// No places.
+    pub(crate) fn new(alloc: Global) -> Sites<'a>
+        ensures { result.sites.items ≡ [] }
+    {
+        Sites {
+            sites: Vec::new(alloc),
+        }
+    }
+}
+
+/// Adds a place at the end.
+pub(crate) fn push_site<'a>(
+    sites: &mut Vec<Site<'a>>,
+    kind: NameKind,
+    line: u32,
+    name: &'a Name,
+) -> Result<(), AllocError>
+    ensures { OnOk result (sites.new.items ≡ sites.old.items ++ (kind, record { line = line; name = name.now }) ∷ []) }
+{
+    sites.push(Site { kind, line, name })?;
+    Ok(())
+}
+
 /// Adds a use of a name at the end.
 pub(crate) fn push_use<'a>(
     sites: &mut Vec<Site<'a>>,
@@ -47,10 +77,5 @@ pub(crate) fn push_use<'a>(
 ) -> Result<(), AllocError>
     ensures { OnOk result (sites.new.items ≡ sites.old.items ++ (kind, used.now) ∷ []) }
 {
-    sites.push(Site {
-        kind,
-        line: used.line,
-        name: &used.name,
-    })?;
-    Ok(())
+    push_site(sites, kind, used.line, &used.name)
 }

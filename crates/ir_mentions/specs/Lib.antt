@@ -1,2 +1,2 @@
 pub mod Mentions
-pub mod OpTypes
+pub mod PartTypes

@@ -2,17 +2,17 @@
 use Rattle.std.specs.Prelude.{ℕ, Option, None, Some, List, [], ◌∷◌, ◌++◌, if◌then◌else◌, is_some}
 use Rattle.std.specs.List.{flat_map, list_any, sum_by}
 use Rattle.ir_syntax.specs.Definitions.{has_body}
-use Rattle.ir_mentions.specs.OpTypes.{block_types, maybe_type}
+use Rattle.ir_mentions.specs.PartTypes.{block_types, part_types}
 use Rattle.ir_cfg.specs.Reached.{reachable_body}
 use Rattle.ir_sizes.specs.Sized.{is_small, level_limit, replaced}
 use Rattle.ir_syntax.specs.Types.{TextTree, int, ptr}
 use Rattle.ir_syntax.specs.declared.function.Function.{Function}
-use Rattle.ir_syntax.specs.declared.function.Param.{Param}
 use Rattle.ir_syntax.specs.declared.global.Global.{Global}
 use Rattle.ir_syntax.specs.declared.module.Module.{Module}
 use Rattle.ir_syntax.specs.declared.type_def.TypeDef.{TypeDef}
 use Rattle.ty_core.specs.Places.{places_of}
 use Rattle.ty_core.specs.Tree.{Tree}
+use Rattle.ir_walk.specs.Parts.{signature_parts}
 
 -- where a function is defined, the types of numbers of bytes and of conditions, and the pointer
 abbrev pub needed_types : Module → List TextTree
@@ -22,13 +22,10 @@ needed_types m = if list_any has_body m.functions then int 64 ∷ int 1 ∷ ptr 
 abbrev pub global_types : Global → List TextTree
 global_types g = if is_some g.init then g.ty ∷ [] else []
 
-abbrev pub param_types : Param → List TextTree
-param_types p = maybe_type p.ty
-
 -- of a defined function the types of the result and the parameters, and those that the blocks write that some path reaches
 abbrev pub function_types : Function → List TextTree
 function_types f =
-    if has_body f then maybe_type f.result ++ (flat_map param_types f.params ++ flat_map block_types (reachable_body f.blocks)) else []
+    if has_body f then flat_map part_types (signature_parts f) ++ flat_map block_types (reachable_body f.blocks) else []
 
 abbrev pub written_types : Module → List TextTree
 written_types m = flat_map global_types m.globals ++ flat_map function_types m.functions

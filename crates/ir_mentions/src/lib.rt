@@ -4,7 +4,6 @@
 mod blocks;
 mod items;
 mod mention;
-mod ops;
 mod places;
 
 pub use places::mentioned_places;

@@ -1,9 +1,12 @@
 //! A type where it is written.
 ghost use Rattle.std.specs.Prelude.{◌≡◌, ◌++◌, ◌∷◌, [], OnOk};
-ghost use Rattle.ir_mentions.specs.OpTypes.{maybe_type};
+ghost use Rattle.ir_mentions.specs.PartTypes.{part_types};
+ghost use Rattle.ir_syntax.specs.Types.{TextTree};
 
-use ir_syntax::TyText;
-use std::alloc::AllocError;
+use ir_ident::NameUse;
+use ir_syntax::{Operand, TyText};
+use ir_walk::Visitor;
+use std::alloc::{AllocError, Global};
 use std::marker::Model;
 
 /// A type where it is written. Contracts see the type.
@@ -23,23 +26,44 @@ impl<'a> Model for Mention<'a> {
     ghost view = { λ m. m.ty.now };
 }
 
-/// Adds a type at the end.
-pub(crate) fn push_type<'a>(types: &mut Vec<Mention<'a>>, ty: &'a TyText) -> Result<(), AllocError>
-    ensures { OnOk result (types.new.items ≡ types.old.items ++ ty.now ∷ []) }
-{
-    types.push(Mention { ty })?;
-    Ok(())
+/// The types that walks found where they are written, in order.
+#[derive(Drop)]
+pub(crate) struct Mentions<'a> {
+    pub(crate) types: Vec<Mention<'a>>,
 }
 
-/// Adds a type, unless it is `void`.
-pub(crate) fn push_maybe<'a>(
-    types: &mut Vec<Mention<'a>>,
-    ty: &'a Option<TyText>,
-) -> Result<(), AllocError>
-    ensures { OnOk result (types.new.items ≡ types.old.items ++ maybe_type ty.now) }
-{
-    match ty {
-        Some(ty) => push_type(types, ty),
-        None => Ok(()),
+impl<'a> Mentions<'a> {
+    /// No types.
+    pub(crate) fn new(alloc: Global) -> Mentions<'a>
+        ensures { result.types.items ≡ [] }
+    {
+        Mentions {
+            types: Vec::new(alloc),
+        }
+    }
+}
+
+impl<'a> Visitor<'a> for Mentions<'a> {
+    ghost Found = { TextTree };
+
+    ghost of_part = { part_types };
+
+    ghost found = { λ m. m.types.items };
+
+    fn ty(&mut self, ty: &'a TyText) -> Result<(), AllocError> {
+        self.types.push(Mention { ty })?;
+        Ok(())
+    }
+
+    fn operand(&mut self, _operand: &'a Operand) -> Result<(), AllocError> {
+        Ok(())
+    }
+
+    fn callee(&mut self, _callee: &'a NameUse) -> Result<(), AllocError> {
+        Ok(())
+    }
+
+    fn label(&mut self, _label: &'a NameUse) -> Result<(), AllocError> {
+        Ok(())
     }
 }

@@ -7,7 +7,7 @@ ghost use Rattle.ir_names.specs.Sets.{knows};
 
 use crate::definitions::Definitions;
 use crate::least::earlier;
-use ir_entities::{Entity, NameKind, Site, push_locals, push_top_level, push_uses};
+use ir_entities::{Entity, NameKind, Site, locals_of, push_top_level, uses_of};
 use ir_ident::Name;
 use std::alloc::{AllocError, Global};
 
@@ -45,12 +45,10 @@ fn entity_fault(
 ) -> Result<Option<u32>, AllocError>
     ensures { IfOk result (λ line. line ≡ least (entity_faults (knows defined.now) entity.now)) }
 {
-    let mut items = Vec::new(alloc);
-    push_locals(&mut items, entity)?;
+    let items = locals_of(alloc, entity)?;
     let numbers = number_fault(items.as_slice());
     let own = Definitions::at(alloc, items.as_slice())?;
-    let mut uses = Vec::new(alloc);
-    push_uses(&mut uses, entity)?;
+    let uses = uses_of(alloc, entity)?;
     Ok(earlier(numbers, use_fault(defined, &own, uses.as_slice())))
 }
 

@@ -1,26 +1,13 @@
 //! The names that operands and initialisers use.
 ghost use Rattle.std.specs.Prelude.{◌≡◌, ◌++◌, OnOk};
 ghost use Rattle.std.specs.List.{flat_map};
-ghost use Rattle.ir_entities.specs.OperandUses.{gep_uses, init_uses, literal_uses, operand_uses, part_uses, typed_uses};
-ghost use Rattle.ir_entities.specs.OpUses.{value_uses};
+ghost use Rattle.ir_entities.specs.OperandUses.{gep_uses, init_uses, literal_uses, operand_uses, element_uses};
 ghost use Rattle.ir_syntax.specs.Inits.{init_of, inits_in};
 
 use crate::site::{NameKind, Site, push_use};
 use crate::uses::types::push_type;
-use ir_syntax::{
-    ConstantGep, Init, InitTree, InitTreeList, Operand, TyText, TypedLiteral, TypedOperand,
-};
+use ir_syntax::{ConstantGep, Init, InitTree, InitTreeList, Operand, TypedLiteral};
 use std::alloc::AllocError;
-
-/// Adds the names that the type of a literal uses.
-pub(crate) fn push_literal<'a>(
-    sites: &mut Vec<Site<'a>>,
-    literal: &'a TypedLiteral,
-) -> Result<(), AllocError>
-    ensures { OnOk result (sites.new.items ≡ sites.old.items ++ literal_uses literal.now) }
-{
-    push_type(sites, &literal.ty)
-}
 
 fn push_literals<'a>(
     sites: &mut Vec<Site<'a>>,
@@ -29,7 +16,7 @@ fn push_literals<'a>(
     ensures { OnOk result (sites.new.items ≡ sites.old.items ++ flat_map literal_uses literals.now) }
 {
     for literal in literals {
-        push_literal(sites, literal)?;
+        push_type(sites, &literal.ty)?;
     }
     Ok(())
 }
@@ -67,31 +54,6 @@ pub(crate) fn push_operand<'a>(
     }
 }
 
-/// Adds those of an operand and of the type before it.
-pub(crate) fn push_value<'a>(
-    sites: &mut Vec<Site<'a>>,
-    ty: &'a TyText,
-    value: &'a Operand,
-) -> Result<(), AllocError>
-    ensures { OnOk result (sites.new.items ≡ sites.old.items ++ value_uses ty.now value.now) }
-{
-    push_type(sites, ty)?;
-    push_operand(sites, value)
-}
-
-/// Adds those of operands with their types, in order.
-pub(crate) fn push_typed<'a>(
-    sites: &mut Vec<Site<'a>>,
-    operands: &'a [TypedOperand],
-) -> Result<(), AllocError>
-    ensures { OnOk result (sites.new.items ≡ sites.old.items ++ flat_map typed_uses operands.now) }
-{
-    for operand in operands {
-        push_value(sites, &operand.ty, &operand.value)?;
-    }
-    Ok(())
-}
-
 /// Adds the names that an initialiser uses.
 pub(crate) fn push_init<'a>(sites: &mut Vec<Site<'a>>, init: &'a Init) -> Result<(), AllocError>
     ensures { OnOk result (sites.new.items ≡ sites.old.items ++ init_uses init.now) }
@@ -114,7 +76,7 @@ fn push_tree<'a>(sites: &mut Vec<Site<'a>>, tree: &'a InitTree) -> Result<(), Al
 
 #[cycle(inits)]
 fn push_parts<'a>(sites: &mut Vec<Site<'a>>, parts: &'a InitTreeList) -> Result<(), AllocError>
-    ensures { OnOk result (sites.new.items ≡ sites.old.items ++ part_uses (inits_in parts.now)) }
+    ensures { OnOk result (sites.new.items ≡ sites.old.items ++ element_uses (inits_in parts.now)) }
 {
     let mut rest = parts;
     while let InitTreeList::More(node) = rest {

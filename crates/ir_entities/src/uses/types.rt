@@ -1,11 +1,10 @@
 //! The names that types use.
 ghost use Rattle.std.specs.Prelude.{◌≡◌, ◌++◌, OnOk};
-ghost use Rattle.std.specs.List.{flat_map};
-ghost use Rattle.ir_entities.specs.Uses.{field_uses, result_uses, signature_uses, type_uses};
+ghost use Rattle.ir_entities.specs.Uses.{field_uses, type_uses};
 ghost use Rattle.ir_syntax.specs.Types.{tree_of, trees_in};
 
 use crate::site::{NameKind, Site, push_use};
-use ir_syntax::{TyText, TypeTexts, TypeTree, TypeTreeList};
+use ir_syntax::{TyText, TypeTree, TypeTreeList};
 use std::alloc::AllocError;
 
 /// Adds the names that a type uses.
@@ -13,45 +12,6 @@ pub(crate) fn push_type<'a>(sites: &mut Vec<Site<'a>>, ty: &'a TyText) -> Result
     ensures { OnOk result (sites.new.items ≡ sites.old.items ++ type_uses ty.now) }
 {
     push_tree(sites, ty.tree())
-}
-
-/// Adds those of types in order.
-pub(crate) fn push_types<'a>(
-    sites: &mut Vec<Site<'a>>,
-    types: &'a [TyText],
-) -> Result<(), AllocError>
-    ensures { OnOk result (sites.new.items ≡ sites.old.items ++ flat_map type_uses types.now) }
-{
-    for ty in types {
-        push_type(sites, ty)?;
-    }
-    Ok(())
-}
-
-/// Adds those of a type that may be left out.
-pub(crate) fn push_result<'a>(
-    sites: &mut Vec<Site<'a>>,
-    ty: &'a Option<TyText>,
-) -> Result<(), AllocError>
-    ensures { OnOk result (sites.new.items ≡ sites.old.items ++ result_uses ty.now) }
-{
-    match ty {
-        Some(ty) => push_type(sites, ty),
-        None => Ok(()),
-    }
-}
-
-/// Adds those of types that may be left out.
-pub(crate) fn push_signature<'a>(
-    sites: &mut Vec<Site<'a>>,
-    types: &'a Option<TypeTexts>,
-) -> Result<(), AllocError>
-    ensures { OnOk result (sites.new.items ≡ sites.old.items ++ signature_uses types.now) }
-{
-    match types {
-        Some(types) => push_types(sites, types.as_slice()),
-        None => Ok(()),
-    }
 }
 
 #[cycle(types)]
