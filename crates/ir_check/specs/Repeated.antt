@@ -2,7 +2,7 @@
 use Rattle.std.proofs.Common.{◌∙◌, sym, ap}
 use base.Stored.{Coded}
 use Rattle.ir_ident.specs.Codes.{use_code, use_back, use_back_code}
-use Rattle.std.specs.Prelude.{ℕ, Bool, List, [], ◌∷◌, ◌++◌, map, if◌then◌else◌}
+use Rattle.std.specs.Prelude.{ℕ, Bool, List, [], ◌∷◌, ◌++◌, map}
 use Rattle.std.specs.List.{flat_map, list_any}
 use Rattle.ir_ident.specs.Names.{same_name}
 use Rattle.ir_syntax.specs.Lines.{line_if}

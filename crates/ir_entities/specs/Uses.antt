@@ -1,6 +1,5 @@
 -- The names that types use.
 use Rattle.std.specs.Prelude.{List, [], ◌∷◌, ◌++◌, Option, None, Some}
-use Rattle.std.specs.List.{flat_map}
 use Rattle.ir_entities.specs.declared.site.NameKind.TheVariants.{NamedType}
 use Rattle.ir_entities.specs.Sites.{Site}
 use Rattle.ir_syntax.specs.Types.{TextTree, int, ptr, array, struct, named, TextTrees, end, more}

@@ -1,5 +1,5 @@
 //! A type where it is written.
-ghost use Rattle.std.specs.Prelude.{◌≡◌, ◌++◌, ◌∷◌, [], OnOk};
+ghost use Rattle.std.specs.Prelude.{◌≡◌, []};
 ghost use Rattle.ir_mentions.specs.PartTypes.{part_types};
 ghost use Rattle.ir_syntax.specs.Types.{TextTree};
 

@@ -3,10 +3,7 @@ use Rattle.std.proofs.Common.{◌≡◌, ◌∙◌, ℕ, ◌+◌, ◌<◌, ◌�
 use Rattle.std.proofs.lemmas.List.{append_assoc, append-nil}
 use Rattle.std.proofs.lemmas.List.Filters.{length-filter_more}
 use Rattle.ir_names.proofs.Lines.{least_append, take_more}
-use Rattle.ir_entities.specs.declared.entity.Entity.{Entity}
-use Rattle.ir_entities.specs.EntityUses.{entity_uses}
-use Rattle.ir_names.specs.Faults.{is_counted, is_other, is_unnamed, unnamed_in, line_if, number_fault, number_faults, number_faults_after, is_defined, use_faults, known_in, entity_faults, fault_lines}
-use Rattle.ir_entities.specs.Items.{entity_items, entity_sites}
+use Rattle.ir_names.specs.Faults.{is_counted, is_other, is_unnamed, unnamed_in, line_if, number_fault, number_faults, number_faults_after}
 use Rattle.ir_names.specs.Least.{earlier_of, least}
 use Rattle.ir_entities.specs.Sites.{Site}
 
@@ -31,25 +28,13 @@ number_more sites i s first here next fault inside is before count test now =
     ∙ ap least (sym (number_snoc [] (take i sites) s))
     ∙ ap (λ ss. least (number_faults ss)) (sym (take_more sites i s inside is))
 
--- the faults inside an item
-pub entity_whole : (known own : Site → Bool) (e : Entity) (items uses : List Site) (numbers used : Option ℕ) → items ≡ entity_items e → uses ≡ entity_uses e →
-    numbers ≡ least (number_faults items) → ((s : Site) → own s ≡ is_defined items s) →
-    used ≡ least (flat_map (use_faults (λ s. known s || own s)) uses) → earlier_of numbers used ≡ least (entity_faults known e)
-entity_whole known own e items uses numbers used ii uu nn knows us =
-    let each : (λ s. known s || own s) ≡ known_in known e = λ k s. known s || (knows s ∙ ap (λ is. is_defined is s) ii) k in
-    let ns : numbers ≡ least (number_faults (entity_items e)) = nn ∙ ap (λ ss. least (number_faults ss)) ii in
-    let ws : used ≡ least (flat_map (use_faults (known_in known e)) (entity_uses e)) = us ∙ (λ k. least (flat_map (use_faults (each k)) (uu k))) in
-    (λ k. earlier_of (ns k) (ws k)) ∙ sym (least_append (number_faults (entity_items e)) (flat_map (use_faults (known_in known e)) (entity_uses e)))
-
--- all faults
-pub whole : (entities : List Entity) (sites : List Site) (known : Site → Bool) (numbers used : Option ℕ) → sites ≡ flat_map entity_sites entities →
-    numbers ≡ least (number_faults sites) → ((s : Site) → known s ≡ is_defined sites s) →
-    used ≡ least (flat_map (entity_faults known) entities) → earlier_of numbers used ≡ least (fault_lines entities)
-whole entities sites known numbers used ss nn knows us =
-    let each : known ≡ is_defined (flat_map entity_sites entities) = λ k s. (knows s ∙ ap (λ all. is_defined all s) ss) k in
-    let ns : numbers ≡ least (number_faults (flat_map entity_sites entities)) = nn ∙ ap (λ all. least (number_faults all)) ss in
-    let ws : used ≡ least (flat_map (entity_faults (is_defined (flat_map entity_sites entities))) entities) = us ∙ ap (λ k. least (flat_map (entity_faults k) entities)) each in
-    (λ k. earlier_of (ns k) (ws k)) ∙ sym (least_append (number_faults (flat_map entity_sites entities)) (flat_map (entity_faults (is_defined (flat_map entity_sites entities))) entities))
+-- the faults of numbers and of uses, where these are known as the sites of what is defined say
+pub both : {A : Type 0} (sites : List Site) (faults : (Site → Bool) → A → List ℕ) (xs : List A) (known at : Site → Bool) (numbers used : Option ℕ) →
+    numbers ≡ least (number_faults sites) → ((s : Site) → known s ≡ at s) → used ≡ least (flat_map (faults known) xs) →
+    earlier_of numbers used ≡ least (number_faults sites ++ flat_map (faults at) xs)
+both sites faults xs known at numbers used nn same us =
+    let all : known ≡ at = λ k s. same s k in
+    (λ k. earlier_of (nn k) ((us ∙ ap (λ f. least (flat_map (faults f) xs)) all) k)) ∙ sym (least_append (number_faults sites) (flat_map (faults at) xs))
 
 -- one more site is counted, if it has no name of its own
 pub count_more : (sites : List Site) (i : ℕ) (s : Site) (next : ℕ) (one : ℕ) → i < length sites → s ≡ get_or sites i s → next ≡ unnamed_in (take i sites) →

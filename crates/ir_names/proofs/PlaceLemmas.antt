@@ -1,5 +1,5 @@
 -- A module says in which order its items stand: no other numbered items make the same module.
-use Rattle.std.proofs.Common.{◌≡◌, ◌∙◌, ℕ, ◌+◌, ◌≤◌, List, [], ◌∷◌, ◌++◌, drop, flat_map, get_or, length, refl, sym, ap, arith}
+use Rattle.std.proofs.Common.{◌≡◌, ℕ, ◌+◌, ◌≤◌, List, [], ◌∷◌, ◌++◌, drop, flat_map, get_or, length, refl, sym, ap, arith}
 use Rattle.ir_entities.specs.declared.entity.Entity.{Entity}
 use Rattle.ir_entities.specs.declared.entity.Entity.TheVariants as entity
 use Rattle.ir_names.specs.Modules.{type_of, global_of, function_of, alias_of, module_of}

@@ -1,7 +1,7 @@
 //! The first fault of names.
-ghost use Rattle.std.specs.Prelude.{◌≡◌, ◌&&◌, ◌||◌, IfOk, if◌then◌else◌};
+ghost use Rattle.std.specs.Prelude.{◌≡◌, ◌++◌, ◌&&◌, ◌||◌, IfOk, if◌then◌else◌};
 ghost use Rattle.std.specs.List.{flat_map};
-ghost use Rattle.ir_names.specs.Faults.{entity_faults, fault_lines, is_counted, is_other, is_unnamed, line_if, number_faults, use_faults};
+ghost use Rattle.ir_names.specs.Faults.{entity_faults, fault_lines, is_counted, is_defined, is_other, is_unnamed, line_if, number_faults, use_faults};
 ghost use Rattle.ir_names.specs.Least.{least};
 ghost use Rattle.ir_names.specs.Sets.{knows};
 
@@ -17,10 +17,20 @@ pub(crate) fn first_fault(alloc: Global, entities: &[Entity]) -> Result<Option<u
 {
     let mut sites = Vec::new(alloc);
     push_top_level(&mut sites, entities)?;
-    let numbers = number_fault(sites.as_slice());
-    let defined = Definitions::at(alloc, sites.as_slice())?;
+    fault_by(alloc, sites.as_slice(), entities)
+}
+
+/// The least line of a fault in these items of a module, which are defined at these sites.
+fn fault_by(
+    alloc: Global,
+    sites: &[Site<'_>],
+    entities: &[Entity],
+) -> Result<Option<u32>, AllocError>
+    ensures { IfOk result (λ line. line ≡ least (number_faults sites.now ++ flat_map (entity_faults (is_defined sites.now)) entities.now)) }
+{
+    let defined = Definitions::at(alloc, sites)?;
     let uses = entities_fault(alloc, &defined, entities)?;
-    Ok(earlier(numbers, uses))
+    Ok(earlier(number_fault(sites), uses))
 }
 
 /// The least line of a fault inside these items, where this is what the module defines.
@@ -46,10 +56,22 @@ fn entity_fault(
     ensures { IfOk result (λ line. line ≡ least (entity_faults (knows defined.now) entity.now)) }
 {
     let items = locals_of(alloc, entity)?;
-    let numbers = number_fault(items.as_slice());
-    let own = Definitions::at(alloc, items.as_slice())?;
     let uses = uses_of(alloc, entity)?;
-    Ok(earlier(numbers, use_fault(defined, &own, uses.as_slice())))
+    fault_among(alloc, defined, items.as_slice(), uses.as_slice())
+}
+
+/// The least line of a fault in an item that defines and uses names at these sites.
+fn fault_among(
+    alloc: Global,
+    defined: &Definitions<'_>,
+    items: &[Site<'_>],
+    uses: &[Site<'_>],
+) -> Result<Option<u32>, AllocError>
+    ensures { IfOk result (λ line. line
+        ≡ least (number_faults items.now ++ flat_map (use_faults (λ s. knows defined.now s || is_defined items.now s)) uses.now)) }
+{
+    let own = Definitions::at(alloc, items)?;
+    Ok(earlier(number_fault(items), use_fault(defined, &own, uses)))
 }
 
 /// The least line of a use of a name that neither knows.

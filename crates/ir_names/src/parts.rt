@@ -1,5 +1,5 @@
 //! The items of a module by their kinds.
-ghost use Rattle.std.specs.Prelude.{◌≡◌, ◌++◌, [], OnOk};
+ghost use Rattle.std.specs.Prelude.{◌≡◌, ◌++◌, ◌∷◌, [], OnOk};
 ghost use Rattle.ir_names.specs.Modules.{alias_of, function_of, global_of, type_of};
 
 use ir_entities::Entity;
@@ -41,12 +41,11 @@ impl Parts {
         ensures aliases { OnOk result (self.new.aliases.items ≡ self.old.aliases.items ++ alias_of entity) }
     {
         match entity {
-            Entity::Type(ty) => self.types.push(ty)?,
-            Entity::Global(global) => self.globals.push(global)?,
-            Entity::Function(function) => self.functions.push(function)?,
-            Entity::Alias(alias) => self.aliases.push(alias)?,
+            Entity::Type(ty) => add(&mut self.types, ty),
+            Entity::Global(global) => add(&mut self.globals, global),
+            Entity::Function(function) => add(&mut self.functions, function),
+            Entity::Alias(alias) => add(&mut self.aliases, alias),
         }
-        Ok(())
     }
 
     /// The module of these items.
@@ -63,4 +62,12 @@ impl Parts {
             aliases: Aliases::from_vec(self.aliases),
         }
     }
+}
+
+/// Adds an item at the end of a list.
+fn add<T: Drop>(items: &mut Vec<T>, item: T) -> Result<(), AllocError>
+    ensures { OnOk result (items.new.items ≡ items.old.items ++ item ∷ []) }
+{
+    items.push(item)?;
+    Ok(())
 }

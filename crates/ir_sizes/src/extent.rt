@@ -10,7 +10,7 @@ use ty_core::{Layout, array_layout, end_behind, layout_behind};
 const PLACE_LIMIT: u32 = 65_536;
 
 /// The extent of a type, or of the fields of a struct up to one of them.
-#[derive(Clone, Copy, Debug, PartialEq, Eq)]
+#[derive(Clone, Copy, PartialEq, Eq)]
 pub struct Extent {
     /// The size and the alignment in bytes; of fields, where the last one ends and their greatest alignment.
     pub layout: Layout,

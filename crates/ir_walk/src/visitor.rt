@@ -1,6 +1,5 @@
 //! What a walk shows the parts to.
-ghost use Rattle.std.specs.Prelude.{◌≡◌, ◌++◌, ◌∷◌, [], List, OnOk};
-ghost use Rattle.std.specs.List.{flat_map};
+ghost use Rattle.std.specs.Prelude.{◌≡◌, ◌++◌, List, OnOk};
 ghost use Rattle.ir_walk.specs.Parts.{Part, callee_part, label_part, operand_part, type_part};
 
 use ir_ident::NameUse;
