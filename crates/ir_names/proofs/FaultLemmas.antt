@@ -3,7 +3,8 @@ use Rattle.std.proofs.Common.{◌≡◌, ◌∙◌, ℕ, ◌+◌, ◌<◌, ◌�
 use Rattle.std.proofs.lemmas.List.{append_assoc, append-nil}
 use Rattle.std.proofs.lemmas.List.Filters.{length-filter_more}
 use Rattle.ir_names.proofs.Lines.{least_append, take_more}
-use Rattle.ir_names.specs.Faults.{is_counted, is_other, is_unnamed, unnamed_in, line_if, number_fault, number_faults, number_faults_after}
+use Rattle.ir_names.specs.Faults.{is_other, line_if, number_fault, number_faults, number_faults_after}
+use Rattle.ir_numbers.specs.Unnamed.{is_counted, is_unnamed, unnamed_in}
 use Rattle.ir_names.specs.Least.{earlier_of, least}
 use Rattle.ir_entities.specs.Sites.{Site}
 

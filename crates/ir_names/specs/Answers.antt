@@ -5,7 +5,7 @@ use Rattle.ir_names.specs.declared.end.NamesEnd.{NamesEnd}
 use Rattle.ir_names.specs.declared.end.NamesEnd.TheVariants.{Name, NoMemory}
 use Rattle.ir_names.specs.Faults.{fault_lines}
 use Rattle.ir_names.specs.Least.{least}
-use Rattle.ir_names.specs.Numbered.{numbered_entities}
+use Rattle.ir_numbers.specs.Numbered.{numbered_entities}
 
 -- the line of a fault is the least of all, where each unnamed item has its number
 abbrev pub IsFirstFault : List Entity → NamesEnd → Type 0

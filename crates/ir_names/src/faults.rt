@@ -1,7 +1,8 @@
 //! The first fault of names.
 ghost use Rattle.std.specs.Prelude.{◌≡◌, ◌++◌, ◌&&◌, ◌||◌, IfOk, if◌then◌else◌};
 ghost use Rattle.std.specs.List.{flat_map};
-ghost use Rattle.ir_names.specs.Faults.{entity_faults, fault_lines, is_counted, is_defined, is_other, is_unnamed, line_if, number_faults, use_faults};
+ghost use Rattle.ir_names.specs.Faults.{entity_faults, fault_lines, is_defined, is_other, line_if, number_faults, use_faults};
+ghost use Rattle.ir_numbers.specs.Unnamed.{is_counted, is_unnamed};
 ghost use Rattle.ir_names.specs.Least.{least};
 ghost use Rattle.ir_names.specs.Sets.{knows};
 

@@ -1,14 +1,12 @@
-//! Names of a module of textual LLVM IR (LLVM Language Reference Manual, "Identifiers"): the numbers of its
-//! unnamed items, and whether each name that is used is defined.
+//! Names of a module of textual LLVM IR (LLVM Language Reference Manual, "Identifiers"): whether each name that is used is
+//! defined, and each number that is written the next one.
 #![tactic(auto)]
 
 mod definitions;
 mod end;
 mod faults;
 mod least;
-mod numbered;
-mod parts;
 mod resolving;
 
 pub use end::NamesEnd;
-pub use resolving::{items_keep_their_order, resolve};
+pub use resolving::resolve;

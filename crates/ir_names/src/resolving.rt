@@ -1,18 +1,16 @@
 //! The names of a whole module.
-ghost use Rattle.std.specs.Prelude.{◌≡◌, [], List, IfErr, IfOk, OnOk};
-ghost use Rattle.ir_entities.specs.declared.entity.Entity.{Entity};
+ghost use Rattle.std.specs.Prelude.{◌≡◌, [], IfErr, IfOk, OnOk};
 ghost use Rattle.ir_names.specs.Answers.{IsFirstFault};
 ghost use Rattle.ir_names.specs.Faults.{fault_lines};
-ghost use Rattle.ir_names.specs.Modules.{module_of};
-ghost use Rattle.ir_names.specs.Numbered.{numbered_entities};
+ghost use Rattle.ir_numbers.specs.Modules.{module_of};
+ghost use Rattle.ir_numbers.specs.Numbered.{numbered_entities};
 
 use crate::end::NamesEnd;
 use crate::faults::first_fault;
-use crate::numbered::number_entities;
-use crate::parts::Parts;
 use ir_entities::Entities;
+use ir_numbers::{module_from, number_entities};
 use ir_syntax::Module;
-use std::alloc::{AllocError, Global};
+use std::alloc::Global;
 
 /// The module of these items, in the order of the text, each with its place among all of them, and with a number for each
 /// item of a function that has no name (LangRef, "Identifiers").
@@ -39,23 +37,4 @@ pub fn resolve(alloc: Global, entities: Entities) -> Result<Module, NamesEnd>
         Ok(module) => Ok(module),
         Err(_) => Err(NamesEnd::NoMemory),
     }
-}
-
-/// The items of a module keep their order among items of all kinds: no other items, with their places and numbers, make
-/// the same module.
-pub fn items_keep_their_order()
-    ensures { (es others : List Entity) → module_of (numbered_entities es) ≡ module_of (numbered_entities others) →
-        numbered_entities es ≡ numbered_entities others }
-{}
-
-/// The module of these items.
-fn module_from(alloc: Global, entities: Entities) -> Result<Module, AllocError>
-    ensures { IfOk result (λ m. m ≡ module_of entities) }
-{
-    let mut parts = Parts::new(alloc);
-    let mut rest = entities.into_vec().into_iter();
-    while let Some(entity) = rest.next() {
-        parts.push(entity)?;
-    }
-    Ok(parts.into_module())
 }

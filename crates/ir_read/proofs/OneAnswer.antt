@@ -7,8 +7,8 @@ use Rattle.ir_lex.specs.Splitting.{tokens_of}
 use Rattle.ir_lex.specs.declared.kind.Token.{Token}
 use Rattle.ir_names.specs.Faults.{fault_lines}
 use Rattle.ir_names.specs.Least.{least}
-use Rattle.ir_names.specs.Modules.{module_of}
-use Rattle.ir_names.specs.Numbered.{numbered_entities}
+use Rattle.ir_numbers.specs.Modules.{module_of}
+use Rattle.ir_numbers.specs.Numbered.{numbered_entities}
 use Rattle.ir_entities.specs.declared.entity.Entity.{Entity}
 use Rattle.ir_read.proofs.EntityLaws.{modules_law}
 use Rattle.ir_read.proofs.Settled.{no_tokens, same_found, same_tokens}

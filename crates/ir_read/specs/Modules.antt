@@ -3,8 +3,8 @@ use Rattle.std.specs.Prelude.{◌≡◌, ℕ, ◌⊎◌, List, [], Some, Ok, Err
 use Rattle.std.specs.declared.result.Result.{Result}
 use Rattle.ir_names.specs.Faults.{fault_lines}
 use Rattle.ir_names.specs.Least.{least}
-use Rattle.ir_names.specs.Modules.{module_of}
-use Rattle.ir_names.specs.Numbered.{numbered_entities}
+use Rattle.ir_numbers.specs.Modules.{module_of}
+use Rattle.ir_numbers.specs.Numbered.{numbered_entities}
 use Rattle.ir_entities.specs.declared.entity.Entity.{Entity}
 use Rattle.ir_syntax.specs.declared.module.Module.{Module}
 use Rattle.ir_syntax.specs.declared.refusal.Refusal.{Refusal}

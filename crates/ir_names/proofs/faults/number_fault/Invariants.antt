@@ -1,5 +1,6 @@
 use Rattle.std.proofs.Common.{◌≡◌, ◌≤◌, take}
-use Rattle.ir_names.specs.Faults.{number_faults, unnamed_in}
+use Rattle.ir_names.specs.Faults.{number_faults}
+use Rattle.ir_numbers.specs.Unnamed.{unnamed_in}
 use Rattle.ir_names.specs.Least.{least}
 use Rattle.ir_names.proofs.faults.number_fault.Given as goal
 

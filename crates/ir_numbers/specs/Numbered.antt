@@ -3,7 +3,7 @@ use Rattle.std.specs.Prelude.{ℕ, ◌+◌, List, [], ◌∷◌, Option, None, S
 use Rattle.std.specs.List.{flat_map}
 use Rattle.ir_entities.specs.declared.entity.Entity.{Entity}
 use Rattle.ir_entities.specs.declared.entity.Entity.TheVariants as entity
-use Rattle.ir_names.specs.Faults.{unnamed_in}
+use Rattle.ir_numbers.specs.Unnamed.{unnamed_in}
 use Rattle.ir_entities.specs.Items.{param_sites, phi_sites, instr_sites, label_sites, block_sites}
 use Rattle.ir_entities.specs.Sites.{Site}
 use Rattle.ir_syntax.specs.declared.block.Block.{Block}

@@ -1,7 +1,7 @@
 use Rattle.std.proofs.Common.{◌≡◌, ◌+◌, ◌++◌, take, drop, flat_map}
-use Rattle.ir_names.specs.Faults.{unnamed_in}
-use Rattle.ir_names.specs.Numbered.{each_numbered}
-use Rattle.ir_names.proofs.numbered.number_each.Given as goal
+use Rattle.ir_numbers.specs.Unnamed.{unnamed_in}
+use Rattle.ir_numbers.specs.Numbered.{each_numbered}
+use Rattle.ir_numbers.proofs.numbered.number_each.Given as goal
 
 abbrev pub invariant-loop-part : goal.invariant-loop-part
 invariant-loop-part g l = record {

@@ -2,8 +2,8 @@
 use Rattle.std.proofs.Common.{◌≡◌, ℕ, ◌+◌, ◌≤◌, List, [], ◌∷◌, ◌++◌, drop, flat_map, get_or, length, refl, sym, ap, arith}
 use Rattle.ir_entities.specs.declared.entity.Entity.{Entity}
 use Rattle.ir_entities.specs.declared.entity.Entity.TheVariants as entity
-use Rattle.ir_names.specs.Modules.{type_of, global_of, function_of, alias_of, module_of}
-use Rattle.ir_names.specs.Numbered.{numbered_after, numbered_entities, numbered_entity, numbered_function}
+use Rattle.ir_numbers.specs.Modules.{type_of, global_of, function_of, alias_of, module_of}
+use Rattle.ir_numbers.specs.Numbered.{numbered_after, numbered_entities, numbered_entity, numbered_function}
 
 no_item : {A : Type 0} (x : A) (xs : List A) → x ∷ xs ≡ [] → ⊥
 no_item x xs same = grind (arith, ap length same)

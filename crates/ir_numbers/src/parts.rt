@@ -1,6 +1,6 @@
 //! The items of a module by their kinds.
 ghost use Rattle.std.specs.Prelude.{◌≡◌, ◌++◌, ◌∷◌, [], OnOk};
-ghost use Rattle.ir_names.specs.Modules.{alias_of, function_of, global_of, type_of};
+ghost use Rattle.ir_numbers.specs.Modules.{alias_of, function_of, global_of, type_of};
 
 use ir_entities::Entity;
 use ir_syntax::{

@@ -1,7 +1,7 @@
 use Rattle.std.proofs.Common.{◌≡◌, ◌++◌, flat_map, length}
 use Rattle.std.specs.Vec.Iter.{into_iter_items}
-use Rattle.ir_names.specs.Modules.{type_of, global_of, function_of, alias_of}
-use Rattle.ir_names.proofs.resolving.module_from.Given as goal
+use Rattle.ir_numbers.specs.Modules.{type_of, global_of, function_of, alias_of}
+use Rattle.ir_numbers.proofs.modules.module_from.Given as goal
 
 abbrev pub invariant-loop-entity : goal.invariant-loop-entity
 invariant-loop-entity l = record {

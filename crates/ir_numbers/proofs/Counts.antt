@@ -3,7 +3,7 @@ use Rattle.std.proofs.Common.{◌≡◌, ◌∙◌, ℕ, ◌+◌, List, [], ◌�
 use Rattle.std.proofs.lemmas.List.{length-append}
 use Rattle.std.proofs.lemmas.List.Elements.{filter-append}
 use Rattle.ir_entities.specs.declared.site.NameKind.TheVariants.{Block}
-use Rattle.ir_names.specs.Faults.{is_number, is_unnamed, unnamed_in}
+use Rattle.ir_numbers.specs.Unnamed.{is_number, is_unnamed, unnamed_in}
 use Rattle.ir_entities.specs.Items.{value_at}
 use Rattle.ir_entities.specs.Sites.{Site}
 use Rattle.ir_ident.specs.declared.name.Name.{Name}

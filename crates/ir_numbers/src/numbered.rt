@@ -1,9 +1,9 @@
 //! The numbers of the unnamed items of a module.
 ghost use Rattle.std.specs.Prelude.{◌≡◌, ◌+◌, List, ℕ, IfOk, OnOk, if◌then◌else◌};
 ghost use Rattle.std.specs.List.{flat_map};
-ghost use Rattle.ir_names.specs.Faults.{is_number, unnamed_in};
+ghost use Rattle.ir_numbers.specs.Unnamed.{is_number, unnamed_in};
 ghost use Rattle.ir_entities.specs.Items.{block_sites, instr_sites, param_sites, phi_sites, result_sites};
-ghost use Rattle.ir_names.specs.Numbered.{each_numbered, numbered, numbered_block, numbered_blocks, numbered_entities, numbered_entity, numbered_function, numbered_instr, numbered_param, numbered_phi, numbered_result};
+ghost use Rattle.ir_numbers.specs.Numbered.{each_numbered, numbered, numbered_block, numbered_blocks, numbered_entities, numbered_entity, numbered_function, numbered_instr, numbered_param, numbered_phi, numbered_result};
 ghost use Rattle.ir_entities.specs.Sites.{Site};
 
 use ir_entities::{Entities, Entity};
@@ -28,7 +28,11 @@ trait Counted: Sized {
 
 /// These items of a module, each with its place among them, and with a number for each item of a function that has no
 /// name.
-pub(crate) fn number_entities(alloc: Global, entities: Entities) -> Result<Entities, AllocError>
+///
+/// # Errors
+///
+/// [`AllocError`], where there are 2^32 items or more, too.
+pub fn number_entities(alloc: Global, entities: Entities) -> Result<Entities, AllocError>
     ensures { IfOk result (λ new. new ≡ numbered_entities entities) }
 {
     let mut all = entities.into_vec();
