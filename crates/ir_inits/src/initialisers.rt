@@ -4,11 +4,12 @@ ghost use Rattle.ir_inits.specs.Initialisers.{array_inits, bracketed_inits, char
 ghost use Rattle.ir_rules.specs.Reading.{Gives};
 ghost use Rattle.ir_rules.specs.Rules.{commas};
 
+use ir_lex::{front_of, rest_of};
 use ir_rules::{End, bad, word};
 use ir_syntax::{Bytes, Init, Operand, TypedInit, TypedInits};
 use ir_types::{begins_type, read_type, unescaped};
 use ir_values::{read_constant_gep, read_scalar};
-use ir_words::{Class, Cursor, front_of, rest_of};
+use ir_words::{Class, Cursor};
 use std::alloc::{AllocError, Global};
 
 /// What stands between the quotes of `c"..."`, its escapes read.

@@ -2,6 +2,7 @@
 use Rattle.std.proofs.Common.{◌≡◌, ℕ, zero, suc, ◌+◌, ◌-◌, ◌<◌, ◌≤◌, List, [], ◌∷◌, ◌++◌, append-nil, append_assoc, Ok, Err, true, false, ◌==◌, ◌||◌, ap, arith, drop, get_or, length, take, refl, sym, ◌∙◌}
 use Rattle.std.specs.List.{list_any}
 use Rattle.std.specs.declared.result.Result.{Result}
+use Rattle.std.proofs.lemmas.Bool.{eq-eqb, ne_eqb}
 use Rattle.std.proofs.lemmas.List.{at_drop_all, at_drop_more, drop-drop, length-drop}
 use Rattle.std.proofs.lemmas.List.Sums.{sum_by-append}
 use Rattle.std.proofs.Math.Seq.{take-add}
@@ -35,17 +36,17 @@ unescaped_step (b ∷ bytes) some more =
     ∙ ap (λ xs. unescaped_after 0 xs) (drop_past (escape_len (b ∷ bytes)) b bytes more))
 
 -- whether a byte 0 stands at the front, or further on
-pub zero_now : (bytes : List ℕ) → 0 < length bytes → true ≡ (escape_byte bytes == 0) → list_any (λ b. b == 0) (unescaped_after 0 bytes) ≡ true
+pub zero_now : (bytes : List ℕ) → 0 < length bytes → escape_byte bytes ≡ 0 → list_any (λ b. b == 0) (unescaped_after 0 bytes) ≡ true
 unfolding unescaped_after
 zero_now [] some is = absurd (omega arith)
 zero_now (b ∷ bytes) some is =
-    ap (λ t. t || list_any (λ b. b == 0) (unescaped_after (escape_len (b ∷ bytes) - 1) bytes)) (sym is)
+    ap (λ t. t || list_any (λ b. b == 0) (unescaped_after (escape_len (b ∷ bytes) - 1) bytes)) (eq-eqb _ _ is)
 
-pub zero_later : (text : List ℕ) (at : ℕ) → at < length text → 0 < escape_len (drop at text) → false ≡ (escape_byte (drop at text) == 0)
+pub zero_later : (text : List ℕ) (at : ℕ) → at < length text → 0 < escape_len (drop at text) → (escape_byte (drop at text) ≡ 0 → ⊥)
     → list_any (λ b. b == 0) (unescaped_after 0 (drop at text)) ≡ list_any (λ b. b == 0) (unescaped_after 0 (drop (at + escape_len (drop at text)) text))
 zero_later text at inside some is =
     ap (list_any (λ b. b == 0)) (unescaped_step (drop at text) (omega (arith, length-drop at text)) some)
-    ∙ ap (λ t. t || list_any (λ b. b == 0) (unescaped_after 0 (drop (escape_len (drop at text)) (drop at text)))) (sym is)
+    ∙ ap (λ t. t || list_any (λ b. b == 0) (unescaped_after 0 (drop (escape_len (drop at text)) (drop at text)))) (ne_eqb _ _ is)
     ∙ ap (λ xs. list_any (λ b. b == 0) (unescaped_after 0 xs)) (drop-drop (escape_len (drop at text)) at text)
 
 pub zero_never : (text : List ℕ) (at : ℕ) → length text ≤ at → list_any (λ b. b == 0) (unescaped_after 0 (drop at text)) ≡ false

@@ -1,15 +1,33 @@
 //! Escapes in a quoted name (LangRef, "Identifiers").
-ghost use Rattle.std.specs.Prelude.{IsTrue, ◌≡◌, ◌==◌, ◌<◌, ◌≤◌, length};
-ghost use Rattle.ir_lex.specs.Escapes.{escape_byte, escape_len, holds_zero, is_numbered};
+ghost use Rattle.std.specs.Prelude.{IsTrue, ◌≡◌, ◌<◌, ◌≤◌, length, slice_index, true};
+ghost use Rattle.ir_lex.specs.Characters.{is_hexadecimal};
+ghost use Rattle.ir_lex.specs.Escapes.{digit_of, escape_byte, escape_len, holds_zero, is_numbered};
 
 use crate::class::Class;
 use crate::slice::{byte_at, rest_of};
+
+/// The number of a hexadecimal digit.
+fn digit_of(byte: u8) -> u8
+    requires { is_hexadecimal byte ≡ true }
+    ensures value { result ≡ digit_of byte }
+    ensures within { result < 16 }
+{
+    if byte.is_ascii_digit() {
+        byte - 48
+    } else if byte >= 97 {
+        byte - 87
+    } else {
+        byte - 55
+    }
+}
 
 /// Whether a backslash and two hexadecimal digits stand at the front.
 #[tactic(auto, unfolding(crate::specs::Escapes::is_numbered))]
 fn is_numbered(bytes: &[u8]) -> bool
     ensures value { result ≡ is_numbered bytes.now }
     ensures within { IsTrue result → 2 < length bytes.now }
+    ensures first { IsTrue result → is_hexadecimal (slice_index bytes.now 1) ≡ true }
+    ensures second { IsTrue result → is_hexadecimal (slice_index bytes.now 2) ≡ true }
 {
     byte_at(bytes, 0) == b'\\'
         && Class::Hexadecimal.holds(byte_at(bytes, 1))
@@ -18,9 +36,10 @@ fn is_numbered(bytes: &[u8]) -> bool
 
 /// How many bytes at the front stand for one.
 #[tactic(auto, unfolding(crate::specs::Escapes::escape_len))]
-fn escape_len(bytes: &[u8]) -> usize
+pub fn escape_len(bytes: &[u8]) -> usize
     ensures value { result ≡ escape_len bytes.now }
     ensures some { 0 < result }
+    ensures most { result ≤ 3 }
     ensures within { 0 < length bytes.now → result ≤ length bytes.now }
 {
     if is_numbered(bytes) {
@@ -32,15 +51,15 @@ fn escape_len(bytes: &[u8]) -> usize
     }
 }
 
-/// Whether the bytes at the front stand for byte 0.
-#[tactic(auto, unfolding(crate::specs::Escapes::escape_byte, crate::specs::Escapes::is_numbered))]
-fn is_zero(bytes: &[u8]) -> bool
-    ensures { result ≡ escape_byte bytes.now == 0 }
+/// The byte that these at the front stand for.
+#[tactic(auto, unfolding(crate::specs::Escapes::escape_byte))]
+pub fn escape_byte(bytes: &[u8]) -> u8
+    ensures { result ≡ escape_byte bytes.now }
 {
     if is_numbered(bytes) {
-        byte_at(bytes, 1) == b'0' && byte_at(bytes, 2) == b'0'
+        16 * digit_of(byte_at(bytes, 1)) + digit_of(byte_at(bytes, 2))
     } else {
-        byte_at(bytes, 0) == 0
+        byte_at(bytes, 0)
     }
 }
 
@@ -52,7 +71,7 @@ pub(crate) fn holds_zero(text: &[u8]) -> bool
     let mut at = 0;
     while at < text.len() {
         let rest = rest_of(text, at);
-        if is_zero(rest) {
+        if escape_byte(rest) == 0 {
             return true;
         }
         at += escape_len(rest);

@@ -5,7 +5,7 @@ ghost use Rattle.ir_lex.specs.Starts.{begins_word, marks, none};
 
 use crate::class::{Class, run_len};
 use crate::kind::Kind;
-use crate::length::{int_len, label_len, len_of, real_after};
+use crate::length::{int_len, label_len, len_of, real_len};
 use crate::slice::{byte_at, rest_of};
 use crate::start::{Start, start_of};
 
@@ -75,7 +75,7 @@ fn number_front(bytes: &[u8]) -> Front
     let whole = int_len(bytes);
     let label = better(NONE, Kind::Label, label_len(bytes));
     let int = better(label, Kind::Int, whole);
-    better(int, Kind::Real, real_after(bytes, whole))
+    better(int, Kind::Real, real_len(bytes, whole))
 }
 
 /// A name of this kind after its mark.

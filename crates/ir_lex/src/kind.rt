@@ -1,7 +1,7 @@
 //! Kinds of tokens, and a token.
 
 /// The kind of a token.
-#[derive(Clone, Copy, Debug, PartialEq, Eq)]
+#[derive(Clone, Copy, PartialEq, Eq)]
 pub enum Kind {
     /// A name or a string, directly followed by `:` (LangRef, "Functions").
     Label,
@@ -58,7 +58,7 @@ pub enum Kind {
 }
 
 /// A token of a text.
-#[derive(Clone, Copy, Debug, PartialEq, Eq)]
+#[derive(Clone, Copy, PartialEq, Eq)]
 pub struct Token {
     /// The token's kind.
     pub kind: Kind,

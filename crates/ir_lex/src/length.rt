@@ -128,7 +128,7 @@ fn exponent_len(bytes: &[u8]) -> usize
 
 /// An integer of this length, a point with digits, and an optional exponent.
 #[tactic(auto, unfolding(crate::specs::Lengths::decimal_len))]
-fn decimal_after(bytes: &[u8], whole: usize) -> usize
+fn decimal_len(bytes: &[u8], whole: usize) -> usize
     requires { whole ≡ int_len bytes.now }
     ensures value { result ≡ decimal_len bytes.now }
     ensures within { result ≤ length bytes.now }
@@ -170,12 +170,12 @@ fn hexadecimal_len(bytes: &[u8]) -> usize
 
 /// A floating-point literal, where the integer at the front has this length.
 #[tactic(auto, unfolding(crate::specs::Lengths::real_len))]
-pub(crate) fn real_after(bytes: &[u8], whole: usize) -> usize
+pub(crate) fn real_len(bytes: &[u8], whole: usize) -> usize
     requires { whole ≡ int_len bytes.now }
     ensures value { result ≡ real_len bytes.now }
     ensures within { result ≤ length bytes.now }
 {
-    match decimal_after(bytes, whole) {
+    match decimal_len(bytes, whole) {
         0 => hexadecimal_len(bytes),
         len => len,
     }
@@ -249,7 +249,7 @@ pub(crate) fn len_of(kind: Kind, bytes: &[u8]) -> usize
     match kind {
         Kind::Label => label_len(bytes),
         Kind::Int => int_len(bytes),
-        Kind::Real => real_after(bytes, int_len(bytes)),
+        Kind::Real => real_len(bytes, int_len(bytes)),
         Kind::Word => word_len(bytes),
         Kind::Str => string_len(bytes),
         Kind::CStr => cstring_len(bytes),

@@ -19,7 +19,9 @@ mod quote;
 mod slice;
 mod start;
 
+pub use escape::{escape_byte, escape_len};
 pub use kind::{Kind, Token};
 pub use lexer::{texts_have_one_splitting, tokens};
 pub use list::{LexEnd, Tokens};
 pub use literal::is_in_range;
+pub use slice::{byte_at, front_of, rest_of};

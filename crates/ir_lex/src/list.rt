@@ -5,7 +5,7 @@ use crate::kind::Token;
 use std::marker::Model;
 
 /// Why a text has no tokens.
-#[derive(Clone, Copy, Debug, PartialEq, Eq)]
+#[derive(Clone, Copy, PartialEq, Eq)]
 pub enum LexEnd {
     /// At some place no token begins, or a name that holds byte 0, or an integer literal outside
     /// -2^127 to 2^128 - 1.
@@ -18,7 +18,7 @@ pub enum LexEnd {
 }
 
 /// The tokens of a text, in order. Contracts see a list.
-#[derive(Debug, Drop)]
+#[derive(Drop)]
 pub struct Tokens {
     tokens: Vec<Token>,
 }

@@ -1,8 +1,8 @@
 //! Bytes at a position.
-ghost use Rattle.std.specs.Prelude.{◌≡◌, ◌<◌, ◌≤◌, drop, length, slice_index};
+ghost use Rattle.std.specs.Prelude.{◌≡◌, ◌<◌, ◌≤◌, drop, length, slice_index, take};
 
 /// The byte at a position, or 0 past the end.
-pub(crate) fn byte_at(bytes: &[u8], at: usize) -> u8
+pub fn byte_at(bytes: &[u8], at: usize) -> u8
     ensures value { result ≡ slice_index bytes.now at }
     ensures inside { 0 < result → at < length bytes.now }
 {
@@ -10,10 +10,21 @@ pub(crate) fn byte_at(bytes: &[u8], at: usize) -> u8
 }
 
 /// What stands from a position on; nothing past the end.
-pub(crate) fn rest_of(bytes: &[u8], at: usize) -> &[u8]
+pub fn rest_of(bytes: &[u8], at: usize) -> &[u8]
     ensures { result.now ≡ drop at bytes.now }
 {
     if at < bytes.len() { &bytes[at..] } else { &[] }
+}
+
+/// The first bytes, or all where there are fewer.
+pub fn front_of(bytes: &[u8], len: usize) -> &[u8]
+    ensures { result.now ≡ take len bytes.now }
+{
+    if len < bytes.len() {
+        &bytes[..len]
+    } else {
+        bytes
+    }
 }
 
 /// What stands from a position in the bytes on.

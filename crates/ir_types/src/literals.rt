@@ -3,9 +3,8 @@ ghost use Rattle.std.specs.Prelude.{◌≡◌};
 ghost use Rattle.ir_types.specs.Names.{literal_of};
 
 use crate::digits::decimal;
-use ir_lex::is_in_range;
+use ir_lex::{byte_at, is_in_range, rest_of};
 use ir_syntax::Literal;
-use ir_words::{byte_at, rest_of};
 
 /// The literal that these bytes write, or none where it is not from -2^127 to 2^128 - 1.
 #[tactic(auto, unfolding(crate::specs::Names::literal_of, ir_lex::specs::Literals::is_in_range, ir_lex::specs::Lengths::minus_len))]

@@ -6,7 +6,8 @@ ghost use Rattle.ir_types.specs.Names.{between_quotes, name_of, sigil_name};
 use crate::digits::item_number;
 use crate::quoted::unescaped;
 use ir_ident::{Identifier, Name, NameUse};
-use ir_words::{Cursor, are_digits, byte_at, front_of, rest_of};
+use ir_lex::{byte_at, front_of, rest_of};
+use ir_words::{Cursor, are_digits};
 use std::alloc::{AllocError, Global};
 
 /// What stands between quotes.

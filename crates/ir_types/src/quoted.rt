@@ -2,7 +2,7 @@
 ghost use Rattle.std.specs.Prelude.{◌≡◌, IfOk};
 ghost use Rattle.ir_lex.specs.Escapes.{unescaped};
 
-use ir_words::{escape_byte, escape_len, rest_of};
+use ir_lex::{escape_byte, escape_len, rest_of};
 use std::alloc::{AllocError, Global};
 
 /// The bytes that these stand for once their escapes are read.

@@ -9,9 +9,10 @@ use crate::digits::small_number;
 use crate::literals::literal_of;
 use crate::names::{name_here, use_here};
 use ir_ident::{Name, NameUse};
+use ir_lex::rest_of;
 use ir_rules::{End, bad, word};
 use ir_syntax::{Literal, TyText, TypeTexts};
-use ir_words::{Class, Cursor, rest_of};
+use ir_words::{Class, Cursor};
 use std::alloc::Global;
 
 /// Reads a name after `%`.

@@ -1,35 +1,17 @@
--- A name in quotes, a byte at a time.
-use Rattle.std.proofs.Common.{◌≡◌, refl, ap, sym, ◌∙◌, ℕ, ◌+◌, ◌<◌, ◌≤◌, List, [], ◌∷◌, ◌++◌, arith, drop, length, set, subst, take}
-use Rattle.std.proofs.lemmas.List.{append_assoc, append-nil, at_drop_all, drop-drop, length-drop, length-take, length-take-le, take_all, take-append-le, take_more_set}
-use Rattle.ir_lex.specs.Escapes.{escape_byte, escape_len, unescaped, unescaped_after}
-use Rattle.ir_lex.proofs.Scans.{unescaped_step}
-
--- what the bytes from a place on stand for
-abbrev pub left_of : List ℕ → ℕ → List ℕ
-left_of quoted at = unescaped_after 0 (drop at quoted)
-
-pub left_first : (quoted : List ℕ) → left_of quoted 0 ≡ unescaped quoted
-unfolding unescaped
-left_first quoted = refl
+-- The first bytes that a name in quotes stands for, written into an array.
+use Rattle.std.proofs.Common.{◌≡◌, ap, sym, ◌∙◌, ℕ, ◌+◌, ◌<◌, ◌≤◌, List, [], ◌∷◌, ◌++◌, arith, drop, length, set, subst, take}
+use Rattle.std.proofs.lemmas.List.{append_assoc, append-nil, length-take, length-take-le, take_all, take-append-le, take_more_set}
+use Rattle.ir_lex.specs.Escapes.{escape_byte, escape_len}
+use Rattle.ir_lex.proofs.Unescaping.{left_of, left_step, none_left}
 
 pub one_more : (quoted name all : List ℕ) (at len byte step : ℕ) → at < length quoted → len < length name → byte ≡ escape_byte (drop at quoted) → step ≡ escape_len (drop at quoted) → 0 < step
     → take len name ++ left_of quoted at ≡ all
     → take (len + 1) (set name len byte) ++ left_of quoted (at + step) ≡ all
 one_more quoted name all at len byte step inside room b s some kept =
-    let here : unescaped_after 0 (drop at quoted) ≡ escape_byte (drop at quoted) ∷ unescaped_after 0 (drop (escape_len (drop at quoted)) (drop at quoted)) =
-    unescaped_step (drop at quoted) (omega (arith, inside, length-drop at quoted)) (subst (λ n. 0 < n) s some) in
-    let there : unescaped_after 0 (drop (escape_len (drop at quoted)) (drop at quoted)) ≡ left_of quoted (at + step) =
-    ap (λ xs. unescaped_after 0 xs) (drop-drop (escape_len (drop at quoted)) at quoted) ∙ ap (λ n. unescaped_after 0 (drop (at + n) quoted)) (sym s) in
     ap (λ xs. xs ++ left_of quoted (at + step)) (take_more_set name len byte room)
     ∙ append_assoc (take len name) (byte ∷ []) (left_of quoted (at + step))
-    ∙ ap (λ n. take len name ++ n ∷ left_of quoted (at + step)) b
-    ∙ ap (λ xs. take len name ++ escape_byte (drop at quoted) ∷ xs) (sym there)
-    ∙ ap (λ xs. take len name ++ xs) (sym here)
+    ∙ ap (λ xs. take len name ++ xs) (sym (left_step quoted at byte step inside b s some))
     ∙ kept
-
-pub none_left : (quoted : List ℕ) (at : ℕ) → length quoted ≤ at → left_of quoted at ≡ []
-unfolding unescaped_after
-none_left quoted at end = at_drop_all (λ xs. unescaped_after 0 xs) quoted at end
 
 pub at_end : (quoted name all : List ℕ) (at len : ℕ) → length quoted ≤ at → len ≤ 40 → take len name ++ left_of quoted at ≡ all → take len name ≡ take 40 all
 at_end quoted name all at len end room kept =

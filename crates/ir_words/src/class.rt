@@ -1,7 +1,7 @@
 //! What a token is to the grammar.
 
 /// What a token is to the grammar, by its kind and its text alone.
-#[derive(Clone, Copy, Debug, PartialEq, Eq)]
+#[derive(Clone, Copy, PartialEq, Eq)]
 pub enum Class {
     /// No token: the text has ended.
     End,

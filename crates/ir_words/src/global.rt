@@ -6,9 +6,9 @@ ghost use Rattle.ir_words.specs.Intrinsics.{begins_with, intrinsic_class, global
 
 use crate::class::Class;
 use crate::quoted::{TELLING, unescape};
-use crate::slice::{byte_at, front_of, rest_of};
 use crate::width::is_width;
 use crate::word::looked_up;
+use ir_lex::{byte_at, front_of, rest_of};
 
 /// Intrinsics that are known by their whole name.
 const NAMED: [(&[u8], Class); 7] = [

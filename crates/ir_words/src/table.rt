@@ -3,7 +3,7 @@
 use crate::class::Class;
 
 /// The words that begin with `a`.
-pub(crate) const IN_A: [(&[u8], Class); 14] = [
+pub(crate) const IN_A: &[(&[u8], Class)] = &[
     (b"attributes", Class::Attributes),
     (b"alias", Class::Alias),
     (b"align", Class::Align),
@@ -21,7 +21,7 @@ pub(crate) const IN_A: [(&[u8], Class); 14] = [
 ];
 
 /// The words that begin with `b`.
-pub(crate) const IN_B: [(&[u8], Class); 5] = [
+pub(crate) const IN_B: &[(&[u8], Class)] = &[
     (b"bitcast", Class::Bitcast),
     (b"br", Class::Br),
     (b"bfloat", Class::Unsupported),
@@ -30,7 +30,7 @@ pub(crate) const IN_B: [(&[u8], Class); 5] = [
 ];
 
 /// The words that begin with `c`.
-pub(crate) const IN_C: [(&[u8], Class); 13] = [
+pub(crate) const IN_C: &[(&[u8], Class)] = &[
     (b"constant", Class::Constant),
     (b"ccc", Class::Ccc),
     (b"coldcc", Class::Coldcc),
@@ -47,7 +47,7 @@ pub(crate) const IN_C: [(&[u8], Class); 13] = [
 ];
 
 /// The words that begin with `d`.
-pub(crate) const IN_D: [(&[u8], Class); 9] = [
+pub(crate) const IN_D: &[(&[u8], Class)] = &[
     (b"datalayout", Class::Datalayout),
     (b"declare", Class::Declare),
     (b"define", Class::Define),
@@ -60,7 +60,7 @@ pub(crate) const IN_D: [(&[u8], Class); 9] = [
 ];
 
 /// The words that begin with `e`.
-pub(crate) const IN_E: [(&[u8], Class); 7] = [
+pub(crate) const IN_E: &[(&[u8], Class)] = &[
     (b"external", Class::External),
     (b"externally_initialized", Class::ExternallyInitialized),
     (b"exact", Class::Exact),
@@ -71,7 +71,7 @@ pub(crate) const IN_E: [(&[u8], Class); 7] = [
 ];
 
 /// The words that begin with `f`.
-pub(crate) const IN_F: [(&[u8], Class); 17] = [
+pub(crate) const IN_F: &[(&[u8], Class)] = &[
     (b"fastcc", Class::Fastcc),
     (b"false", Class::False),
     (b"freeze", Class::Freeze),
@@ -92,20 +92,20 @@ pub(crate) const IN_F: [(&[u8], Class); 17] = [
 ];
 
 /// The words that begin with `g`.
-pub(crate) const IN_G: [(&[u8], Class); 3] = [
+pub(crate) const IN_G: &[(&[u8], Class)] = &[
     (b"global", Class::GlobalWord),
     (b"getelementptr", Class::Getelementptr),
     (b"gc", Class::Unsupported),
 ];
 
 /// The words that begin with `h`.
-pub(crate) const IN_H: [(&[u8], Class); 2] = [
+pub(crate) const IN_H: &[(&[u8], Class)] = &[
     (b"hidden", Class::Hidden),
     (b"half", Class::Unsupported),
 ];
 
 /// The words that begin with `i`.
-pub(crate) const IN_I: [(&[u8], Class); 10] = [
+pub(crate) const IN_I: &[(&[u8], Class)] = &[
     (b"internal", Class::Internal),
     (b"inbounds", Class::Inbounds),
     (b"icmp", Class::Icmp),
@@ -119,7 +119,7 @@ pub(crate) const IN_I: [(&[u8], Class); 10] = [
 ];
 
 /// The words that begin with `l`.
-pub(crate) const IN_L: [(&[u8], Class); 7] = [
+pub(crate) const IN_L: &[(&[u8], Class)] = &[
     (b"local_unnamed_addr", Class::LocalUnnamedAddr),
     (b"lshr", Class::Lshr),
     (b"load", Class::Load),
@@ -130,7 +130,7 @@ pub(crate) const IN_L: [(&[u8], Class); 7] = [
 ];
 
 /// The words that begin with `m`.
-pub(crate) const IN_M: [(&[u8], Class); 4] = [
+pub(crate) const IN_M: &[(&[u8], Class)] = &[
     (b"metadata", Class::Metadata),
     (b"mul", Class::Mul),
     (b"module", Class::Unsupported),
@@ -138,7 +138,7 @@ pub(crate) const IN_M: [(&[u8], Class); 4] = [
 ];
 
 /// The words that begin with `n`.
-pub(crate) const IN_N: [(&[u8], Class); 8] = [
+pub(crate) const IN_N: &[(&[u8], Class)] = &[
     (b"null", Class::Null),
     (b"nuw", Class::Nuw),
     (b"nsw", Class::Nsw),
@@ -150,10 +150,10 @@ pub(crate) const IN_N: [(&[u8], Class); 8] = [
 ];
 
 /// The words that begin with `o`.
-pub(crate) const IN_O: [(&[u8], Class); 2] = [(b"or", Class::Or), (b"opaque", Class::Unsupported)];
+pub(crate) const IN_O: &[(&[u8], Class)] = &[(b"or", Class::Or), (b"opaque", Class::Unsupported)];
 
 /// The words that begin with `p`.
-pub(crate) const IN_P: [(&[u8], Class); 12] = [
+pub(crate) const IN_P: &[(&[u8], Class)] = &[
     (b"private", Class::Private),
     (b"protected", Class::Protected),
     (b"ptr", Class::Ptr),
@@ -169,13 +169,10 @@ pub(crate) const IN_P: [(&[u8], Class); 12] = [
 ];
 
 /// The words that begin with `r`.
-pub(crate) const IN_R: [(&[u8], Class); 2] = [
-    (b"ret", Class::Ret),
-    (b"resume", Class::Unsupported),
-];
+pub(crate) const IN_R: &[(&[u8], Class)] = &[(b"ret", Class::Ret), (b"resume", Class::Unsupported)];
 
 /// The words that begin with `s`.
-pub(crate) const IN_S: [(&[u8], Class); 20] = [
+pub(crate) const IN_S: &[(&[u8], Class)] = &[
     (b"source_filename", Class::SourceFilename),
     (b"sub", Class::Sub),
     (b"shl", Class::Shl),
@@ -199,7 +196,7 @@ pub(crate) const IN_S: [(&[u8], Class); 20] = [
 ];
 
 /// The words that begin with `t`.
-pub(crate) const IN_T: [(&[u8], Class); 9] = [
+pub(crate) const IN_T: &[(&[u8], Class)] = &[
     (b"target", Class::Target),
     (b"triple", Class::Triple),
     (b"type", Class::TypeWord),
@@ -212,7 +209,7 @@ pub(crate) const IN_T: [(&[u8], Class); 9] = [
 ];
 
 /// The words that begin with `u`.
-pub(crate) const IN_U: [(&[u8], Class); 10] = [
+pub(crate) const IN_U: &[(&[u8], Class)] = &[
     (b"unnamed_addr", Class::UnnamedAddr),
     (b"undef", Class::Undef),
     (b"udiv", Class::Udiv),
@@ -226,7 +223,7 @@ pub(crate) const IN_U: [(&[u8], Class); 10] = [
 ];
 
 /// The words that begin with `v`.
-pub(crate) const IN_V: [(&[u8], Class); 4] = [
+pub(crate) const IN_V: &[(&[u8], Class)] = &[
     (b"void", Class::Void),
     (b"vscale", Class::Unsupported),
     (b"volatile", Class::Unsupported),
@@ -234,13 +231,13 @@ pub(crate) const IN_V: [(&[u8], Class); 4] = [
 ];
 
 /// The words that begin with `w`.
-pub(crate) const IN_W: [(&[u8], Class); 2] = [
+pub(crate) const IN_W: &[(&[u8], Class)] = &[
     (b"weak", Class::Unsupported),
     (b"weak_odr", Class::Unsupported),
 ];
 
 /// The words that begin with `x`.
-pub(crate) const IN_X: [(&[u8], Class); 5] = [
+pub(crate) const IN_X: &[(&[u8], Class)] = &[
     (b"x", Class::Times),
     (b"xor", Class::Xor),
     (b"x86_fp80", Class::Unsupported),
@@ -249,7 +246,7 @@ pub(crate) const IN_X: [(&[u8], Class); 5] = [
 ];
 
 /// The words that begin with `z`.
-pub(crate) const IN_Z: [(&[u8], Class); 2] = [
+pub(crate) const IN_Z: &[(&[u8], Class)] = &[
     (b"zeroinitializer", Class::Zeroinitializer),
     (b"zext", Class::Zext),
 ];

@@ -5,7 +5,7 @@ ghost use Rattle.ir_lex.specs.Characters.{is_digit};
 ghost use Rattle.ir_lex.specs.Literals.{decimal_after};
 ghost use Rattle.ir_words.specs.Words.{is_digits, is_width};
 
-use crate::slice::byte_at;
+use ir_lex::byte_at;
 
 /// Whether all bytes are digits.
 pub fn are_digits(mut text: &[u8]) -> bool

@@ -1,15 +1,15 @@
 //! The class of a word (LangRef, "Identifiers").
 ghost use Rattle.std.specs.Prelude.{◌≡◌, map};
 ghost use Rattle.std.specs.Str.{bytes_eq};
-ghost use Rattle.ir_words.specs.Words.{is_int_type, looked_up, word_class, words};
+ghost use Rattle.ir_words.specs.Words.{beginning, is_int_type, looked_up, word_class, words};
 
 use crate::class::Class;
-use crate::slice::{byte_at, rest_of};
 use crate::table::{
     IN_A, IN_B, IN_C, IN_D, IN_E, IN_F, IN_G, IN_H, IN_I, IN_L, IN_M, IN_N, IN_O, IN_P, IN_R, IN_S,
     IN_T, IN_U, IN_V, IN_W, IN_X, IN_Z,
 };
 use crate::width::{is_digits, is_width};
+use ir_lex::{byte_at, rest_of};
 
 /// Whether a word is a known one.
 #[tactic(auto, using(crate::proofs::Tables::other_length))]
@@ -32,35 +32,42 @@ pub(crate) fn looked_up(mut table: &[(&[u8], Class)], word: &[u8], other: Class)
     other
 }
 
+/// The words that begin with a byte, and their classes.
+fn beginning(byte: u8) -> &'static [(&'static [u8], Class)]
+    ensures { map (λ k. (k.0.now, k.1)) result.now ≡ beginning byte words }
+{
+    match byte {
+        b'a' => IN_A,
+        b'b' => IN_B,
+        b'c' => IN_C,
+        b'd' => IN_D,
+        b'e' => IN_E,
+        b'f' => IN_F,
+        b'g' => IN_G,
+        b'h' => IN_H,
+        b'i' => IN_I,
+        b'l' => IN_L,
+        b'm' => IN_M,
+        b'n' => IN_N,
+        b'o' => IN_O,
+        b'p' => IN_P,
+        b'r' => IN_R,
+        b's' => IN_S,
+        b't' => IN_T,
+        b'u' => IN_U,
+        b'v' => IN_V,
+        b'w' => IN_W,
+        b'x' => IN_X,
+        b'z' => IN_Z,
+        _ => &[],
+    }
+}
+
 /// The class of a word that is no integer type.
 fn listed(word: &[u8]) -> Class
     ensures { result ≡ looked_up words word.now Class.Attribute }
 {
-    match byte_at(word, 0) {
-        b'a' => looked_up(&IN_A, word, Class::Attribute),
-        b'b' => looked_up(&IN_B, word, Class::Attribute),
-        b'c' => looked_up(&IN_C, word, Class::Attribute),
-        b'd' => looked_up(&IN_D, word, Class::Attribute),
-        b'e' => looked_up(&IN_E, word, Class::Attribute),
-        b'f' => looked_up(&IN_F, word, Class::Attribute),
-        b'g' => looked_up(&IN_G, word, Class::Attribute),
-        b'h' => looked_up(&IN_H, word, Class::Attribute),
-        b'i' => looked_up(&IN_I, word, Class::Attribute),
-        b'l' => looked_up(&IN_L, word, Class::Attribute),
-        b'm' => looked_up(&IN_M, word, Class::Attribute),
-        b'n' => looked_up(&IN_N, word, Class::Attribute),
-        b'o' => looked_up(&IN_O, word, Class::Attribute),
-        b'p' => looked_up(&IN_P, word, Class::Attribute),
-        b'r' => looked_up(&IN_R, word, Class::Attribute),
-        b's' => looked_up(&IN_S, word, Class::Attribute),
-        b't' => looked_up(&IN_T, word, Class::Attribute),
-        b'u' => looked_up(&IN_U, word, Class::Attribute),
-        b'v' => looked_up(&IN_V, word, Class::Attribute),
-        b'w' => looked_up(&IN_W, word, Class::Attribute),
-        b'x' => looked_up(&IN_X, word, Class::Attribute),
-        b'z' => looked_up(&IN_Z, word, Class::Attribute),
-        _ => Class::Attribute,
-    }
+    looked_up(beginning(byte_at(word, 0)), word, Class::Attribute)
 }
 
 /// Whether a word is `i` and one or more digits.

@@ -1,6 +1,6 @@
 use Rattle.std.proofs.Common.{ap, arith, rules, ◌++◌, ◌∙◌}
 use Rattle.ir_lex.specs.Escapes.{escape_byte, escape_len, unescaped}
-use Rattle.ir_words.proofs.Unescaping.{left_first, left_of}
+use Rattle.ir_lex.proofs.Unescaping.{left_first, left_of}
 use Rattle.ir_types.proofs.Unescaping.{all_bytes, one_byte_more}
 use Rattle.ir_types.proofs.quoted.unescaped.Goals as goal
 

@@ -1,6 +1,7 @@
 use Rattle.std.proofs.Common.{ap, arith, rules, ◌∙◌}
 use Rattle.ir_lex.specs.Escapes.{escape_byte, escape_len, unescaped}
-use Rattle.ir_words.proofs.Unescaping.{at_end, full, left_first, one_more}
+use Rattle.ir_lex.proofs.Unescaping.{left_first}
+use Rattle.ir_words.proofs.Unescaping.{at_end, full, one_more}
 use Rattle.ir_words.proofs.quoted.unescape.Goals as goal
 
 pub loop-at-init : goal.loop-at-init

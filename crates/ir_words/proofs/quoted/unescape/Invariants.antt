@@ -1,6 +1,6 @@
 use Rattle.std.proofs.Common.{length, take, ◌++◌, ◌-◌, ◌≡◌, ◌≤◌}
 use Rattle.ir_lex.specs.Escapes.{unescaped}
-use Rattle.ir_words.proofs.Unescaping.{left_of}
+use Rattle.ir_lex.proofs.Unescaping.{left_of}
 use Rattle.ir_words.proofs.quoted.unescape.Given as goal
 
 abbrev pub invariant-loop-at : goal.invariant-loop-at
