@@ -11,8 +11,6 @@ mod memory;
 mod slices;
 mod standard;
 mod streams;
-#[cfg(test)]
-mod tests;
 mod whole;
 
 pub use errors::{Failed, ReadEnd, WriteFault};

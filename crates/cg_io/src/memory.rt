@@ -14,7 +14,7 @@ use std::marker::Model;
 ///
 /// A read that doesn't fail gives as many bytes as one piece has, as the buffer holds or as are left,
 /// whichever is least.
-#[derive(Debug, Drop)]
+#[derive(Drop)]
 pub struct MemSource {
     bytes: Vec<u8>,
     given: usize,
@@ -112,7 +112,7 @@ impl Source for MemSource {
 ///
 /// A write takes as much of its piece as there is room for. It fails too where there is no room at
 /// all and the piece isn't empty. It takes no memory.
-#[derive(Debug, Drop)]
+#[derive(Drop)]
 pub struct MemSink {
     bytes: Vec<u8>,
     room: usize,

@@ -1,6 +1,9 @@
-//! Tests of `ir_check` and `ir_sizes`, on modules at each limit and just beyond it: texts, and what is told of them.
+//! Tests of `ty_core`, of types at worked values, and of `ir_check` and `ir_sizes`, on modules at each limit and just
+//! beyond it: texts, and what is told of them.
 #![tactic(auto)]
 
+#[cfg(test)]
+mod layout_tests;
 #[cfg(test)]
 mod limits_tests;
 #[cfg(test)]

@@ -1,25 +1,120 @@
 //! Texts that are assembled, and texts that are refused.
+use crate::code::{Code, RET, is_code};
 use asm_read::{AsmRefusal, Object, ObjectSymbol, Section, assemble};
-use rv_isa::{Inst, Line, Op};
+use rv_isa::{Line, Op};
 use std::alloc::Global;
-use std::test::Fail;
 
-fn addi(rd: u8, rs1: u8, imm: i64) -> Inst {
-    Inst {
-        op: Op::Addi,
-        rd,
-        rs1,
-        rs2: 0,
-        imm,
-    }
-}
+/// A symbol: its name, whether it is global, and its offset in the text.
+type Symbol = (&'static [u8], bool, i128);
 
-fn plain(line: &Line) -> Option<Inst> {
+/// Texts, and the instructions and the symbols of their objects, which need no other symbol.
+const ASSEMBLED: &[(&[u8], &[Code], &[Symbol])] = &[
+    (b"", &[], &[]),
+    (
+        b"\t.text\n\t.globl\ta\n\t.p2align\t2\na:\n\tmv\tt0, a0\n\tmv\tt1, a1\n\tmv\ta0, t0\n\tret\n",
+        &[
+            (Op::Addi, 5, 10, 0),
+            (Op::Addi, 6, 11, 0),
+            (Op::Addi, 10, 5, 0),
+            RET,
+        ],
+        &[(b"a", true, 0)],
+    ),
+    (
+        b"\t.text\n\t.p2align\t2\n.LBB0x:\n\tli\ta0, -2048\n\tret\n\"a\\\"\\\\ \\303\\251\":\n\tret\n",
+        &[(Op::Addi, 10, 0, -2048), RET, RET],
+        &[(b".LBB0x", false, 0), (b"a\"\\ \xC3\xA9", false, 8)],
+    ),
+];
+
+/// Whether a line is this instruction and needs no symbol.
+fn is_plain(line: &Line, code: Code) -> bool {
     match line {
-        Line::Plain(inst) => Some(*inst),
-        _ => None,
+        Line::Plain(inst) => is_code(*inst, code),
+        _ => false,
     }
 }
+
+/// Whether lines are these instructions, none of which needs a symbol.
+fn are_plain(lines: &[Line], code: &[Code]) -> bool {
+    for at in 0..lines.len() {
+        if at >= code.len() || !is_plain(&lines[at], code[at]) {
+            return false;
+        }
+    }
+    lines.len() == code.len()
+}
+
+/// Whether a symbol is this one.
+fn is_symbol(symbol: &ObjectSymbol, wanted: Symbol) -> bool {
+    let place = (symbol.section == Section::Text) & (symbol.offset == wanted.2);
+    (symbol.name.as_bytes() == wanted.0) & (symbol.global == wanted.1) & place
+}
+
+/// Whether symbols are these.
+fn are_symbols(symbols: &[ObjectSymbol], wanted: &[Symbol]) -> bool {
+    for at in 0..symbols.len() {
+        if at >= wanted.len() || !is_symbol(&symbols[at], wanted[at]) {
+            return false;
+        }
+    }
+    symbols.len() == wanted.len()
+}
+
+/// Whether an object has these instructions and symbols, and needs no other symbol.
+fn is_object(object: &Object, code: &[Code], symbols: &[Symbol]) -> bool {
+    are_plain(object.words.as_slice(), code)
+        & are_symbols(object.symbols.as_slice(), symbols)
+        & object.needs.as_slice().is_empty()
+}
+
+/// Whether a text has an object with these instructions and symbols.
+fn is_assembled(alloc: Global, text: &[u8], code: &[Code], symbols: &[Symbol]) -> bool {
+    match assemble(alloc, text) {
+        Ok(object) => is_object(&object, code, symbols),
+        Err(_) => false,
+    }
+}
+
+/// The number of the first text whose object is another than the one beside it, or 0.
+fn wrong_object(alloc: Global) -> usize {
+    for at in 0..ASSEMBLED.len() {
+        let (text, code, symbols) = ASSEMBLED[at];
+        if !is_assembled(alloc, text, code, symbols) {
+            return at + 1;
+        }
+    }
+    0
+}
+
+#[test]
+fn texts_are_assembled(rt: HostRuntime) {
+    assert_eq!(rt; wrong_object(rt.alloc()), 0);
+}
+
+/// Texts, and the line at which each is refused.
+const REFUSED: &[(&[u8], u64)] = &[
+    (
+        b"\t.text\n\t.globl\ta\n\t.p2align\t2\na:\n\tmv\tt0, a0\n\taddi\tt0, t0, 2048\n\tret\n",
+        6,
+    ),
+    (b"\t.text\n\tli\tt0, 2048\n", 2),
+    (b"\t.text\n\tli\tt0, -2049\n", 2),
+    (b"\t.text\n\tli\tt0, -0\n", 2),
+    (b"\t.text\n\tli\tt0, 07\n", 2),
+    (b"\t.text\n\tli\tt0,7\n", 2),
+    (b"\t.text\n\tmv\ta0, zero\n", 2),
+    (b"\t.text\n\"a\":\n", 2),
+    (b"\t.text\n.LBB0_1:\n", 2),
+    (b"\t.text\n\n", 2),
+    (b"\t.p2align\t2\n\t.text\n", 1),
+    (b"a:\n\t.text\n", 1),
+    (b"\t.globl\ta\na:\n\t.text\n", 2),
+    (b"\t.text\n\t.globl\tb\na:\n", 2),
+    (b"\t.text\na:\n\tret\na:\n", 4),
+    (b"\t.text\na:\n\tret", 3),
+    (b"\t.text", 1),
+];
 
 /// The line at which a text is refused, or 0.
 fn refused_line(alloc: Global, text: &[u8]) -> u64 {
@@ -29,112 +124,17 @@ fn refused_line(alloc: Global, text: &[u8]) -> u64 {
     }
 }
 
-/// Whether the lines are these instructions, none of which needs a symbol.
-fn are_plain(lines: &[Line], wanted: &[Inst]) -> bool {
-    for (line, inst) in lines.iter().zip(wanted.iter()) {
-        if plain(line) != Some(*inst) {
-            return false;
+/// The number of the first text that is not refused at the line beside it, or 0.
+fn wrong_refusal(alloc: Global) -> usize {
+    for at in 0..REFUSED.len() {
+        if refused_line(alloc, REFUSED[at].0) != REFUSED[at].1 {
+            return at + 1;
         }
     }
-    lines.len() == wanted.len()
-}
-
-/// Whether a symbol has this name and lies at this offset in the text.
-fn is_symbol(symbol: &ObjectSymbol, name: &[u8], global: bool, offset: i128) -> bool {
-    let names = symbol.name.as_bytes() == name;
-    let place = symbol.section == Section::Text && symbol.offset == offset;
-    names & place & (symbol.global == global)
-}
-
-/// Whether an object is a global function `a` of four instructions.
-fn is_function(object: &Object) -> bool {
-    let ret = Inst {
-        op: Op::Jalr,
-        rd: 0,
-        rs1: 1,
-        rs2: 0,
-        imm: 0,
-    };
-    let wanted = [addi(5, 10, 0), addi(6, 11, 0), addi(10, 5, 0), ret];
-    let code = are_plain(object.words.as_slice(), &wanted);
-    let symbols = match object.symbols.as_slice() {
-        [symbol] => is_symbol(symbol, b"a", true, 0),
-        _ => false,
-    };
-    code & symbols & object.needs.as_slice().is_empty()
-}
-
-#[test]
-fn a_function_is_assembled(rt: HostRuntime) -> Result<(), Fail> {
-    let text =
-        b"\t.text\n\t.globl\ta\n\t.p2align\t2\na:\n\tmv\tt0, a0\n\tmv\tt1, a1\n\tmv\ta0, t0\n\tret\n";
-    let object = assemble(rt.alloc(), text)?;
-    let right = is_function(&object);
-    drop(object);
-    assert!(rt; right);
-    Ok(())
-}
-
-/// Whether an object has a local symbol at its front, and one with a quoted name behind two instructions.
-fn has_quoted_symbol(object: &Object) -> bool {
-    let first = match object.words.as_slice() {
-        [line, _, _] => plain(line) == Some(addi(10, 0, -2048)),
-        _ => false,
-    };
-    let symbols = match object.symbols.as_slice() {
-        [front, quoted] => {
-            is_symbol(front, b".LBB0x", false, 0) & is_symbol(quoted, b"a\"\\ \xC3\xA9", false, 8)
-        }
-        _ => false,
-    };
-    first & symbols
-}
-
-#[test]
-fn a_later_symbol_with_a_quoted_name_is_local(rt: HostRuntime) -> Result<(), Fail> {
-    let text =
-        b"\t.text\n\t.p2align\t2\n.LBB0x:\n\tli\ta0, -2048\n\tret\n\"a\\\"\\\\ \\303\\251\":\n\tret\n";
-    let object = assemble(rt.alloc(), text)?;
-    let right = has_quoted_symbol(&object);
-    drop(object);
-    assert!(rt; right);
-    Ok(())
-}
-
-#[test]
-fn the_empty_text_is_an_empty_object(rt: HostRuntime) -> Result<(), Fail> {
-    let object = assemble(rt.alloc(), b"")?;
-    let empty = object.words.as_slice().is_empty() & object.symbols.as_slice().is_empty();
-    drop(object);
-    assert!(rt; empty);
-    Ok(())
+    0
 }
 
 #[test]
 fn the_first_bad_line_is_named(rt: HostRuntime) {
-    let cases: [(&[u8], u64); 17] = [
-        (
-            b"\t.text\n\t.globl\ta\n\t.p2align\t2\na:\n\tmv\tt0, a0\n\taddi\tt0, t0, 2048\n\tret\n",
-            6,
-        ),
-        (b"\t.text\n\tli\tt0, 2048\n", 2),
-        (b"\t.text\n\tli\tt0, -2049\n", 2),
-        (b"\t.text\n\tli\tt0, -0\n", 2),
-        (b"\t.text\n\tli\tt0, 07\n", 2),
-        (b"\t.text\n\tli\tt0,7\n", 2),
-        (b"\t.text\n\tmv\ta0, zero\n", 2),
-        (b"\t.text\n\"a\":\n", 2),
-        (b"\t.text\n.LBB0_1:\n", 2),
-        (b"\t.text\n\n", 2),
-        (b"\t.p2align\t2\n\t.text\n", 1),
-        (b"a:\n\t.text\n", 1),
-        (b"\t.globl\ta\na:\n\t.text\n", 2),
-        (b"\t.text\n\t.globl\tb\na:\n", 2),
-        (b"\t.text\na:\n\tret\na:\n", 4),
-        (b"\t.text\na:\n\tret", 3),
-        (b"\t.text", 1),
-    ];
-    for (text, line) in cases.iter() {
-        assert_eq!(rt; refused_line(rt.alloc(), text), *line);
-    }
+    assert_eq!(rt; wrong_refusal(rt.alloc()), 0);
 }

@@ -1,10 +1,16 @@
-//! Tests of the assembler, the linker and the machine: worked texts, links and runs, with values from
-//! outside. They stand apart from the crates that they call, since a crate with tests is proved twice.
+//! Tests of the streams, the assembler, the linker and the machine: worked reads, texts, links and runs, with values
+//! from outside. They stand apart from the crates that they call, since a crate with tests is proved twice.
 #![tactic(auto)]
 
 #[cfg(test)]
 mod assembling;
 #[cfg(test)]
+mod code;
+#[cfg(test)]
+mod encoding;
+#[cfg(test)]
 mod linking;
 #[cfg(test)]
 mod running;
+#[cfg(test)]
+mod streams;

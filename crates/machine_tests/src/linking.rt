@@ -1,145 +1,174 @@
-//! Worked links.
-use asm_read::{Needs, Object, ObjectSymbol, Section, Symbols, Words};
-use obj_link::{Image, LinkRefusal, link};
-use rv_isa::{Inst, Line, Op, SymName};
-use std::alloc::{AllocError, Global};
-use std::test::Fail;
+//! Texts that are assembled and linked, and objects that are not linked.
+use asm_read::{Object, assemble};
+use obj_link::{Image, LinkRefusal, ObjectAddresses, link};
+use std::alloc::Global;
 
-/// An object that defines this name as a global one, at a function that returns -7.
-fn object(alloc: Global, name: &[u8]) -> Result<Object, AllocError> {
-    let mut lines = Vec::new(alloc);
-    lines.push(Line::Plain(Inst {
-        op: Op::Addi,
-        rd: 5,
-        rs1: 0,
-        rs2: 0,
-        imm: -7,
-    }))?;
-    lines.push(Line::Plain(Inst {
-        op: Op::Addi,
-        rd: 10,
-        rs1: 5,
-        rs2: 0,
-        imm: 0,
-    }))?;
-    lines.push(Line::Plain(Inst {
-        op: Op::Jalr,
-        rd: 0,
-        rs1: 1,
-        rs2: 0,
-        imm: 0,
-    }))?;
-    let mut symbols = Vec::new(alloc);
-    symbols.push(ObjectSymbol {
-        name: SymName::from_vec(Vec::from_slice(alloc, name)?),
-        global: true,
-        section: Section::Text,
-        offset: 0,
-    })?;
-    Ok(Object {
-        words: Words::from_vec(lines),
-        symbols: Symbols::from_vec(symbols),
-        needs: Needs::from_vec(Vec::new(alloc)),
-    })
-}
+/// A `main` that returns -7.
+const MAIN: &str =
+    "\t.text\n\t.globl\tmain\n\t.p2align\t2\nmain:\n\tli\tt0, -7\n\tmv\ta0, t0\n\tret\n";
 
-/// The words that LLVM's assembler gives for the runtime and this object, `main` at 0x10030.
-const WORDS: [u32; 15] = [
-    0x0000_0513,
-    0x0000_0593,
-    0x0001_00b7,
-    0x0300_80e7,
-    0x05d0_0893,
-    0x0000_0073,
-    0x0010_0893,
-    0x0000_0073,
-    0x0000_8067,
-    0x0020_0893,
-    0x0000_0073,
-    0x0000_8067,
-    0xff90_0293,
-    0x0002_8513,
-    0x0000_8067,
+/// A function `f` that returns its first argument.
+const F: &str =
+    "\t.text\n\t.globl\tf\n\t.p2align\t2\nf:\n\tmv\tt0, a0\n\tmv\tt1, a1\n\tmv\ta0, t0\n\tret\n";
+
+/// A function that has the name of one of the runtime.
+const START: &str = "\t.text\n\t.globl\t_start\n\t.p2align\t2\n_start:\n\tret\n";
+
+/// The bytes that LLVM's assembler and linker give for the runtime and `MAIN`.
+const RUNTIME_MAIN: &[u8] = b"\
+    \x13\x05\x00\x00\
+    \x93\x05\x00\x00\
+    \xb7\x00\x01\x00\
+    \xe7\x80\x00\x03\
+    \x93\x08\xd0\x05\
+    \x73\x00\x00\x00\
+    \x93\x08\x10\x00\
+    \x73\x00\x00\x00\
+    \x67\x80\x00\x00\
+    \x93\x08\x20\x00\
+    \x73\x00\x00\x00\
+    \x67\x80\x00\x00\
+    \x93\x02\x90\xff\
+    \x13\x85\x02\x00\
+    \x67\x80\x00\x00";
+
+/// Those for the runtime, `F` and `MAIN`.
+const RUNTIME_F_MAIN: &[u8] = b"\
+    \x13\x05\x00\x00\
+    \x93\x05\x00\x00\
+    \xb7\x00\x01\x00\
+    \xe7\x80\x00\x04\
+    \x93\x08\xd0\x05\
+    \x73\x00\x00\x00\
+    \x93\x08\x10\x00\
+    \x73\x00\x00\x00\
+    \x67\x80\x00\x00\
+    \x93\x08\x20\x00\
+    \x73\x00\x00\x00\
+    \x67\x80\x00\x00\
+    \x93\x02\x05\x00\
+    \x13\x83\x05\x00\
+    \x13\x85\x02\x00\
+    \x67\x80\x00\x00\
+    \x93\x02\x90\xff\
+    \x13\x85\x02\x00\
+    \x67\x80\x00\x00";
+
+/// Texts of one symbol each, the bytes of the image of their objects, and the address of each symbol.
+const LINKED: &[(&[&str], &[u8], &[u64])] = &[
+    (&[MAIN], RUNTIME_MAIN, &[0x1_0030]),
+    (&[F, MAIN], RUNTIME_F_MAIN, &[0x1_0030, 0x1_0040]),
 ];
 
-/// Whether bytes are these words, in little-endian order.
-fn are_words(bytes: &[u8], words: &[u32]) -> bool {
-    let mut at = 0;
-    for chunk in bytes.chunks_exact(4) {
-        if at >= words.len() || chunk != words[at].to_le_bytes().as_slice() {
-            return false;
-        }
-        at += 1;
-    }
-    at == words.len() && bytes.len() % 4 == 0
-}
-
-/// Whether an image is the runtime and `main` behind it.
-fn is_wanted(image: &Image) -> bool {
-    let code = image.instructions == 15 && are_words(image.bytes.as_slice(), &WORDS);
-    let main = match image.addresses.as_slice() {
-        [_, own] => match own.as_slice() {
-            [symbol] => symbol.address == 0x1_0030,
-            _ => false,
-        },
-        _ => false,
-    };
-    code & main
-}
-
-#[test]
-fn a_main_stands_behind_the_runtime(rt: HostRuntime) -> Result<(), Fail> {
-    let objects = vec![in rt.alloc(); object(rt.alloc(), b"main")?]?;
-    let right = match link(rt.alloc(), objects.as_slice()) {
-        Ok(image) => is_wanted(&image),
-        Err(_) => false,
-    };
-    drop(objects);
-    assert!(rt; right);
-    Ok(())
-}
-
 /// Why objects are not linked.
-#[derive(Clone, Copy, Debug, PartialEq, Eq)]
-enum Wanted {
-    /// A name is defined twice.
+#[derive(Clone, Copy)]
+enum Cause {
+    /// This name is defined twice.
     Duplicate(&'static [u8]),
-    /// A name is defined nowhere.
+    /// This name is defined nowhere.
     Undefined(&'static [u8]),
 }
 
-/// Whether objects of these names are refused so.
-fn is_refused(alloc: Global, names: &[&[u8]], wanted: Wanted) -> Result<bool, AllocError> {
+/// Texts whose objects are not linked, and why.
+const REFUSED: &[(&[&str], Cause)] = &[
+    (&[MAIN, MAIN], Cause::Duplicate(b"main")),
+    (&[F, MAIN, F], Cause::Duplicate(b"f")),
+    (&[START], Cause::Duplicate(b"_start")),
+    (&[F], Cause::Undefined(b"main")),
+];
+
+/// The objects of texts, if each has one.
+fn objects_of(alloc: Global, texts: &[&str]) -> Option<Vec<Object>> {
     let mut objects = Vec::new(alloc);
-    for name in names {
-        objects.push(object(alloc, name)?)?;
+    for text in texts {
+        let object = assemble(alloc, text.as_bytes()).ok()?;
+        objects.push(object).ok()?;
     }
-    let outcome = link(alloc, objects.as_slice());
-    Ok(is_refusal(&outcome, wanted))
+    Some(objects)
 }
 
-fn is_refusal(outcome: &Result<Image, LinkRefusal>, wanted: Wanted) -> bool {
-    match (outcome, wanted) {
-        (Err(LinkRefusal::Duplicate { name }), Wanted::Duplicate(other)) => {
-            name.as_bytes() == other
+/// Whether objects have one symbol each, at these addresses.
+fn are_at(objects: &[ObjectAddresses], addresses: &[u64]) -> bool {
+    for at in 0..objects.len() {
+        match objects[at].as_slice() {
+            [symbol] if at < addresses.len() && symbol.address == addresses[at] => {}
+            _ => return false,
         }
-        (Err(LinkRefusal::Undefined { name }), Wanted::Undefined(other)) => {
-            name.as_bytes() == other
+    }
+    objects.len() == addresses.len()
+}
+
+/// Whether an image has these bytes, and its objects, behind the runtime, their symbols at these addresses.
+fn is_image(image: &Image, bytes: &[u8], addresses: &[u64]) -> bool {
+    let placed = match image.addresses.as_slice() {
+        [_, objects @ ..] => are_at(objects, addresses),
+        [] => false,
+    };
+    let counted = image.instructions == bytes.len() as u64 / 4;
+    placed & counted & (image.bytes.as_slice() == bytes)
+}
+
+/// Whether objects are linked to an image with these bytes and addresses.
+fn are_linked(alloc: Global, objects: &[Object], bytes: &[u8], addresses: &[u64]) -> bool {
+    match link(alloc, objects) {
+        Ok(image) => is_image(&image, bytes, addresses),
+        Err(_) => false,
+    }
+}
+
+/// The number of the first texts that are linked to another image than the one beside them, or 0.
+fn wrong_image(alloc: Global) -> usize {
+    for at in 0..LINKED.len() {
+        let (texts, bytes, addresses) = LINKED[at];
+        let right = match objects_of(alloc, texts) {
+            Some(objects) => are_linked(alloc, objects.as_slice(), bytes, addresses),
+            None => false,
+        };
+        if !right {
+            return at + 1;
         }
+    }
+    0
+}
+
+#[test]
+fn texts_are_linked_behind_the_runtime(rt: HostRuntime) {
+    assert_eq!(rt; wrong_image(rt.alloc()), 0);
+}
+
+/// Whether a refusal has this cause.
+fn has_cause(refusal: &LinkRefusal, cause: Cause) -> bool {
+    match (refusal, cause) {
+        (LinkRefusal::Duplicate { name }, Cause::Duplicate(wanted))
+        | (LinkRefusal::Undefined { name }, Cause::Undefined(wanted)) => name.as_bytes() == wanted,
         _ => false,
     }
 }
 
-#[test]
-fn each_name_is_defined_once(rt: HostRuntime) -> Result<(), Fail> {
-    let table: [(&[&[u8]], Wanted); 3] = [
-        (&[b"main", b"main"], Wanted::Duplicate(b"main")),
-        (&[b"_start"], Wanted::Duplicate(b"_start")),
-        (&[b"other"], Wanted::Undefined(b"main")),
-    ];
-    for (names, wanted) in table {
-        let right = is_refused(rt.alloc(), names, wanted)?;
-        assert!(rt; right, "{wanted:?}");
+/// Whether objects are not linked, for this cause.
+fn are_refused(alloc: Global, objects: &[Object], cause: Cause) -> bool {
+    match link(alloc, objects) {
+        Ok(_) => false,
+        Err(refusal) => has_cause(&refusal, cause),
     }
-    Ok(())
+}
+
+/// The number of the first texts that are not refused for the cause beside them, or 0.
+fn wrong_refusal(alloc: Global) -> usize {
+    for at in 0..REFUSED.len() {
+        let (texts, cause) = REFUSED[at];
+        let right = match objects_of(alloc, texts) {
+            Some(objects) => are_refused(alloc, objects.as_slice(), cause),
+            None => false,
+        };
+        if !right {
+            return at + 1;
+        }
+    }
+    0
+}
+
+#[test]
+fn each_name_is_defined_once(rt: HostRuntime) {
+    assert_eq!(rt; wrong_refusal(rt.alloc()), 0);
 }

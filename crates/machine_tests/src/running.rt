@@ -3,7 +3,6 @@ use cg_io::{MemSink, WriteFault};
 use obj_link::{Addresses, Bytes, Image};
 use rv_mach::{Machine, Stop, TrapKind};
 use std::alloc::{AllocError, Global};
-use std::test::Fail;
 
 // Words that GNU as gives.
 const ADDI_A0_ZERO_MINUS_7: u32 = 0xff90_0513;
@@ -34,6 +33,93 @@ const JALR_ZERO_0_ZERO: u32 = 0x0000_0067;
 
 const RET: u32 = 0x0000_8067;
 
+/// The runtime, and a `main` that returns -7.
+const MAIN: &[u32] = &[
+    0x0000_0513, // li a0, 0
+    0x0000_0593, // li a1, 0
+    0x0001_00b7, // lui ra, 16
+    0x0300_80e7, // jalr ra, 48(ra)
+    ADDI_A7_ZERO_93,
+    ECALL,
+    ADDI_A7_ZERO_1,
+    ECALL,
+    RET,
+    ADDI_A7_ZERO_2,
+    ECALL,
+    RET,
+    0xff90_0293, // li t0, -7
+    0x0002_8513, // mv a0, t0
+    RET,
+];
+
+/// A number of steps, and how a run of so many ends.
+type Run = (u64, Stop);
+
+/// Programs, and how runs without input end, one after the other, none of which puts a byte.
+const ENDED: &[(&[u32], &[Run])] = &[
+    (
+        &[ADDI_A0_ZERO_MINUS_7, ADDI_A7_ZERO_93, ECALL],
+        &[
+            (4, Stop::Exited(4_294_967_289)),
+            (1, Stop::Exited(4_294_967_289)),
+        ],
+    ),
+    (
+        &[EBREAK, 0, 0],
+        &[
+            (4, Stop::Trapped(TrapKind::Illegal)),
+            (1, Stop::Trapped(TrapKind::Illegal)),
+        ],
+    ),
+    (
+        &[0, 0, 0],
+        &[
+            (4, Stop::Trapped(TrapKind::Illegal)),
+            (1, Stop::Trapped(TrapKind::Illegal)),
+        ],
+    ),
+    (
+        &[LUI_T0_16, JALR_ZERO_2_T0, 0],
+        &[
+            (4, Stop::Trapped(TrapKind::Misaligned)),
+            (1, Stop::Trapped(TrapKind::Misaligned)),
+        ],
+    ),
+    (
+        &[JALR_ZERO_0_ZERO, 0, 0],
+        &[
+            (4, Stop::Trapped(TrapKind::Unmapped)),
+            (1, Stop::Trapped(TrapKind::Unmapped)),
+        ],
+    ),
+    (
+        &[LUI_T0_16, LUI_T0_16, LUI_T0_16],
+        &[
+            (4, Stop::Trapped(TrapKind::Unmapped)),
+            (1, Stop::Trapped(TrapKind::Unmapped)),
+        ],
+    ),
+    (
+        &[ECALL, 0, 0],
+        &[
+            (4, Stop::Trapped(TrapKind::Ecall)),
+            (1, Stop::Trapped(TrapKind::Ecall)),
+        ],
+    ),
+    (
+        &[LUI_SP_0X3F800, ADDI_SP_SP_MINUS_2048, 0],
+        &[(4, Stop::StackOut), (1, Stop::StackOut)],
+    ),
+    (
+        &[LUI_T0_16, JALR_ZERO_1_T0, 0],
+        &[(4, Stop::Running), (1, Stop::Running)],
+    ),
+    (
+        MAIN,
+        &[(8, Stop::Running), (1, Stop::Exited(4_294_967_289))],
+    ),
+];
+
 /// An image of these words, without symbols.
 fn image_of(alloc: Global, words: &[u32]) -> Result<Image, AllocError> {
     let mut bytes = Vec::new(alloc);
@@ -47,79 +133,63 @@ fn image_of(alloc: Global, words: &[u32]) -> Result<Image, AllocError> {
     })
 }
 
-/// How runs of these numbers of steps end, one after the other, without input; none where one put a byte.
-fn ends_of<const N: usize>(
-    alloc: Global,
-    words: &[u32],
-    steps: [u64; N],
-) -> Result<[Option<Stop>; N], Fail> {
+/// The machine with an image of these words.
+fn machine_of(alloc: Global, words: &[u32]) -> Result<Machine, AllocError> {
     let image = image_of(alloc, words)?;
-    let mut machine = Machine::load(alloc, &image)?;
+    let machine = Machine::load(alloc, &image);
+    drop(image);
+    machine
+}
+
+/// Whether runs without input end so, one after the other, and put no byte.
+fn runs_end(machine: &mut Machine, runs: &[Run], out: &mut MemSink) -> bool {
+    for (steps, end) in runs {
+        if machine.run(*steps, b"", out) != Ok(*end) {
+            return false;
+        }
+    }
+    true
+}
+
+/// Whether runs of these words end so.
+fn words_end(alloc: Global, words: &[u32], runs: &[Run]) -> Result<bool, AllocError> {
     let mut out = MemSink::new(alloc, 0, Vec::new(alloc))?;
-    let mut ends = [None; N];
-    for at in 0..N {
-        ends[at] = machine.run(steps[at], b"", &mut out).ok();
+    match machine_of(alloc, words) {
+        Ok(mut machine) => Ok(runs_end(&mut machine, runs, &mut out)),
+        Err(end) => Err(end),
     }
-    Ok(ends)
+}
+
+/// The number of the first program whose runs end otherwise, or 0.
+fn wrong_program(alloc: Global) -> usize {
+    for at in 0..ENDED.len() {
+        if words_end(alloc, ENDED[at].0, ENDED[at].1) != Ok(true) {
+            return at + 1;
+        }
+    }
+    0
 }
 
 #[test]
-fn each_end_comes_from_its_words(rt: HostRuntime) -> Result<(), Fail> {
-    let alloc = rt.alloc();
-    let table = [
-        (
-            [ADDI_A0_ZERO_MINUS_7, ADDI_A7_ZERO_93, ECALL],
-            Stop::Exited(4_294_967_289),
-        ),
-        ([EBREAK, 0, 0], Stop::Trapped(TrapKind::Illegal)),
-        ([0, 0, 0], Stop::Trapped(TrapKind::Illegal)),
-        (
-            [LUI_T0_16, JALR_ZERO_2_T0, 0],
-            Stop::Trapped(TrapKind::Misaligned),
-        ),
-        ([JALR_ZERO_0_ZERO, 0, 0], Stop::Trapped(TrapKind::Unmapped)),
-        (
-            [LUI_T0_16, LUI_T0_16, LUI_T0_16],
-            Stop::Trapped(TrapKind::Unmapped),
-        ),
-        ([ECALL, 0, 0], Stop::Trapped(TrapKind::Ecall)),
-        ([LUI_SP_0X3F800, ADDI_SP_SP_MINUS_2048, 0], Stop::StackOut),
-        ([LUI_T0_16, JALR_ZERO_1_T0, 0], Stop::Running),
-    ];
-    for (words, want) in table {
-        let ends = ends_of(alloc, &words, [4, 1])?;
-        assert_eq!(rt; ends, [Some(want), Some(want)], "{words:?}");
-    }
-    Ok(())
+fn each_end_comes_from_its_words(rt: HostRuntime) {
+    assert_eq!(rt; wrong_program(rt.alloc()), 0);
 }
 
-/// The runtime, and a `main` that returns -7.
-#[test]
-fn a_main_takes_nine_steps(rt: HostRuntime) -> Result<(), Fail> {
-    let words = [
-        0x0000_0513, // li a0, 0
-        0x0000_0593, // li a1, 0
-        0x0001_00b7, // lui ra, 16
-        0x0300_80e7, // jalr ra, 48(ra)
-        ADDI_A7_ZERO_93,
-        ECALL,
-        ADDI_A7_ZERO_1,
-        ECALL,
-        RET,
-        ADDI_A7_ZERO_2,
-        ECALL,
-        RET,
-        0xff90_0293, // li t0, -7
-        0x0002_8513, // mv a0, t0
-        RET,
-    ];
-    let ends = ends_of(rt.alloc(), &words, [8, 1])?;
-    assert_eq!(rt;
-        ends,
-        [Some(Stop::Running), Some(Stop::Exited(4_294_967_289))]
-    );
-    Ok(())
-}
+/// Gets a byte and puts it, twice, then gets one and exits with it.
+const ECHO: &[u32] = &[
+    ADDI_A7_ZERO_2,
+    ECALL,
+    ADDI_A7_ZERO_1,
+    ECALL,
+    ADDI_A7_ZERO_2,
+    ECALL,
+    ADDI_A7_ZERO_1,
+    ECALL,
+    ADDI_A7_ZERO_2,
+    ECALL,
+    ADDI_A7_ZERO_93,
+    ECALL,
+];
 
 /// Whether two bytes are got and put, with the first write failing and the run tried again; then a0 is -1.
 fn puts_over_a_fault(machine: &mut Machine, out: &mut MemSink) -> bool {
@@ -130,38 +200,27 @@ fn puts_over_a_fault(machine: &mut Machine, out: &mut MemSink) -> bool {
     failed & running & first & exited & (out.bytes() == b"hi".as_slice())
 }
 
-#[test]
-fn bytes_are_got_and_put_over_a_fault(rt: HostRuntime) -> Result<(), Fail> {
-    let alloc = rt.alloc();
-    let words = [
-        ADDI_A7_ZERO_2,
-        ECALL,
-        ADDI_A7_ZERO_1,
-        ECALL,
-        ADDI_A7_ZERO_2,
-        ECALL,
-        ADDI_A7_ZERO_1,
-        ECALL,
-        ADDI_A7_ZERO_2,
-        ECALL,
-        ADDI_A7_ZERO_93,
-        ECALL,
-    ];
-    let image = image_of(alloc, &words)?;
-    let mut machine = Machine::load(alloc, &image)?;
-    drop(image);
+/// Whether the words that get and put bytes do so over a fault of the first write.
+fn echoes_over_a_fault(alloc: Global) -> Result<bool, AllocError> {
     let mut out = MemSink::new(alloc, 2, vec![in alloc; 1]?)?;
-    let right = puts_over_a_fault(&mut machine, &mut out);
-    drop(out);
-    drop(machine);
-    assert!(rt; right);
-    Ok(())
+    match machine_of(alloc, ECHO) {
+        Ok(mut machine) => Ok(puts_over_a_fault(&mut machine, &mut out)),
+        Err(end) => Err(end),
+    }
 }
 
-/// A loop without an end, with enough steps that one of more than constant time would show.
 #[test]
-fn a_step_takes_constant_time(rt: HostRuntime) -> Result<(), Fail> {
-    let ends = ends_of(rt.alloc(), &[LUI_T0_16, JALR_ZERO_0_T0], [10_000_000])?;
-    assert_eq!(rt; ends, [Some(Stop::Running)]);
-    Ok(())
+fn bytes_are_got_and_put_over_a_fault(rt: HostRuntime) {
+    assert!(rt; echoes_over_a_fault(rt.alloc()) == Ok(true));
+}
+
+/// A loop without an end.
+const LOOP: &[u32] = &[LUI_T0_16, JALR_ZERO_0_T0];
+
+/// Enough steps that one of more than constant time would show.
+const MANY: &[Run] = &[(10_000_000, Stop::Running)];
+
+#[test]
+fn a_step_takes_constant_time(rt: HostRuntime) {
+    assert!(rt; words_end(rt.alloc(), LOOP, MANY) == Ok(true));
 }

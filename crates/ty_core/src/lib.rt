@@ -14,6 +14,3 @@ pub use measure::{
 };
 pub use node::{TyId, TyNode};
 pub use types::{Ty, TyList};
-
-#[cfg(test)]
-mod tests;
