@@ -1,10 +1,9 @@
 //! Texts, and the tokens that they have.
 use ir_lex::{Kind, LexEnd, Token, tokens};
 use std::alloc::Global;
-use std::test::Fail;
 
 /// Texts of one token each, and its kind.
-const SINGLE: [(&[u8], Kind); 27] = [
+const SINGLE: &[(&[u8], Kind)] = &[
     (b"entry:", Kind::Label),
     (b"\"a b\":", Kind::Label),
     (b"...:", Kind::Label),
@@ -35,7 +34,7 @@ const SINGLE: [(&[u8], Kind); 27] = [
 ];
 
 /// Texts, and the line at which each is refused; 0: it isn't.
-const REFUSED: [(&[u8], u32); 9] = [
+const REFUSED: &[(&[u8], u32)] = &[
     (b"ret\n\"a", 2),
     (b"\"a\n\" ^", 2),
     (b"; a\n\n  %", 3),
@@ -58,16 +57,21 @@ fn refused_line(alloc: Global, text: &[u8]) -> u32 {
     }
 }
 
+/// Whether these are one token of a kind and of so many bytes.
+fn is_whole(tokens: &[Token], len: usize, kind: Kind) -> bool {
+    match tokens {
+        [token] => (token.kind == kind) & (token.start == 0) & (token.len as usize == len),
+        _ => false,
+    }
+}
+
 /// Whether a text is one token of a kind.
 fn is_one(alloc: Global, text: &[u8], kind: Kind) -> bool {
     if text.len() > 16777216 {
         return false;
     }
     match tokens(alloc, text) {
-        Ok(tokens) => match tokens.as_slice() {
-            [token] => token.kind == kind && token.start == 0 && token.len as usize == text.len(),
-            _ => false,
-        },
+        Ok(tokens) => is_whole(tokens.as_slice(), text.len(), kind),
         Err(_) => false,
     }
 }
@@ -83,47 +87,59 @@ fn has_tokens(alloc: Global, text: &[u8], wanted: &[Token]) -> bool {
     }
 }
 
-/// A token on the second line.
-fn second_line(kind: Kind, start: u32, len: u32) -> Token {
+/// The tokens of a line behind a comment.
+const LINE: &[Token] = &[
     Token {
-        kind,
-        start,
-        len,
+        kind: Kind::Word,
+        start: 9,
+        len: 3,
         line: 2,
-    }
-}
+    },
+    Token {
+        kind: Kind::Word,
+        start: 13,
+        len: 3,
+        line: 2,
+    },
+    Token {
+        kind: Kind::Local,
+        start: 17,
+        len: 2,
+        line: 2,
+    },
+];
 
 #[test]
-fn a_line_is_split(rt: HostRuntime) -> Result<(), Fail> {
-    let wanted = [
-        second_line(Kind::Word, 9, 3),
-        second_line(Kind::Word, 13, 3),
-        second_line(Kind::Local, 17, 2),
-    ];
-    assert!(rt; has_tokens(rt.alloc(), b"; zero\n  ret i32 %x\n", &wanted));
-    Ok(())
+fn a_line_is_split(rt: HostRuntime) {
+    assert!(rt; has_tokens(rt.alloc(), b"; zero\n  ret i32 %x\n", LINE));
 }
 
-#[test]
-fn each_kind_is_read(rt: HostRuntime) -> Result<(), Fail> {
-    let mut wrong = 0;
-    for place in 0..SINGLE.len() {
-        if !is_one(rt.alloc(), SINGLE[place].0, SINGLE[place].1) {
-            wrong = place + 1;
+/// The number of the first text that is not one token of the kind beside it, or 0.
+fn wrong_token(alloc: Global) -> usize {
+    for at in 0..SINGLE.len() {
+        if !is_one(alloc, SINGLE[at].0, SINGLE[at].1) {
+            return at + 1;
         }
     }
-    assert_eq!(rt; wrong, 0);
-    Ok(())
+    0
 }
 
 #[test]
-fn the_first_refused_place_is_named(rt: HostRuntime) -> Result<(), Fail> {
-    let mut wrong = 0;
-    for place in 0..REFUSED.len() {
-        if refused_line(rt.alloc(), REFUSED[place].0) != REFUSED[place].1 {
-            wrong = place + 1;
+fn each_kind_is_read(rt: HostRuntime) {
+    assert_eq!(rt; wrong_token(rt.alloc()), 0);
+}
+
+/// The number of the first text that is not refused at the line beside it, or 0.
+fn wrong_refusal(alloc: Global) -> usize {
+    for at in 0..REFUSED.len() {
+        if refused_line(alloc, REFUSED[at].0) != REFUSED[at].1 {
+            return at + 1;
         }
     }
-    assert_eq!(rt; wrong, 0);
-    Ok(())
+    0
+}
+
+#[test]
+fn the_first_refused_place_is_named(rt: HostRuntime) {
+    assert_eq!(rt; wrong_refusal(rt.alloc()), 0);
 }
