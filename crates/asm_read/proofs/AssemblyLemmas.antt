@@ -3,39 +3,43 @@ use Rattle.std.proofs.Common.{◌≡◌, ◌<◌, ◌↔◌, ◌∙◌, ℕ, suc
 use Rattle.std.proofs.lemmas.Bool.{false≢true}
 use Rattle.std.proofs.lemmas.List.Elements.{All-cons, All-head, All-nil, All-tail}
 use Rattle.std.specs.List.{list_any}
-use Rattle.asm_read.specs.Assembly.{HasLines, IsAssembly, IsBadLine, IsFirstBad, IsRefusal}
-use Rattle.asm_read.specs.Checks.{AreRead, IsFirstRefused, IsRefused, defines, forms_in, opens, refuses, refuses_at}
-use Rattle.asm_read.specs.Forms.{IsForm, form_line}
-use Rattle.asm_read.specs.declared.form.Form.{Form}
+use Rattle.asm_read.specs.Assembly.{Assembles, IsObjectOf, is_some_and, HasLines, IsAssembly, IsBadLine, IsFirstBad, IsRefusal, defines}
+use Rattle.asm_read.specs.Checks.{AreRead, IsFirstRefused, IsRefused, statements_in, refuses, refuses_at}
+use Rattle.asm_read.specs.Statements.{IsStatement, opens}
+use Rattle.rv_isa.specs.declared.inst.Line.{Line}
+use Rattle.rv_isa.specs.declared.statement.Statement.{Statement}
+use Rattle.asm_read.specs.declared.object.Object.{Object}
+use Rattle.asm_read.specs.declared.object.ObjectSymbol.{ObjectSymbol}
 use Rattle.asm_read.specs.declared.refusal.AsmRefusal.TheVariants.{Line as RefusedLine}
 use Rattle.asm_read.proofs.BadLemmas.{passed_is_not_bad, read_length, refused_is_bad}
 use Rattle.asm_read.proofs.BytesLemmas.{tail_same}
-use Rattle.asm_read.proofs.FormLemmas.{form_once}
-use Rattle.asm_read.proofs.PieceLemmas.{lines_of_forms, lines_once, text_is_lines}
+use Rattle.asm_read.proofs.StatementLemmas.{statement_once}
+use Rattle.rv_isa.specs.Statements.{statement_line}
+use Rattle.asm_read.proofs.PieceLemmas.{lines_of_statements, lines_once, text_is_lines}
 
 -- every line is read
-abbrev AllSaid : List (Option Form) → Type 0
+abbrev AllSaid : List (Option Statement) → Type 0
 AllSaid readings = (k : ℕ) → k < length readings → slice_index_or readings k None ≡ None → ⊥
 
-said_tail : (r : Option Form) (readings : List (Option Form)) → AllSaid (r ∷ readings) → AllSaid readings
+said_tail : (r : Option Statement) (readings : List (Option Statement)) → AllSaid (r ∷ readings) → AllSaid readings
 said_tail r readings h k l e = h (suc k) (omega arith) e
 
-lines_said : (lines : List (List ℕ)) (readings : List (Option Form)) → AreRead lines readings → AllSaid readings → lines ≡ map form_line (forms_in readings)
+lines_said : (lines : List (List ℕ)) (readings : List (Option Statement)) → AreRead lines readings → AllSaid readings → lines ≡ map statement_line (statements_in readings)
 lines_said [] [] h said = refl
 lines_said [] (r ∷ readings) h said = absurd h
 lines_said (line ∷ lines) [] h said = absurd h
 lines_said (line ∷ lines) (None ∷ readings) h said = absurd (said 0 (omega arith) refl)
-lines_said (line ∷ lines) (Some form ∷ readings) h said =
-    ap (λ l. l ∷ lines) h.0.1 ∙ ap (λ ls. form_line form ∷ ls) (lines_said lines readings h.1 (said_tail (Some form) readings said))
+lines_said (line ∷ lines) (Some statement ∷ readings) h said =
+    ap (λ l. l ∷ lines) h.0.1 ∙ ap (λ ls. statement_line statement ∷ ls) (lines_said lines readings h.1 (said_tail (Some statement) readings said))
 
-pub forms_said : (lines : List (List ℕ)) (readings : List (Option Form)) → AreRead lines readings → All IsForm (forms_in readings)
-forms_said [] [] h = All-nil IsForm
-forms_said [] (r ∷ readings) h = absurd h
-forms_said (line ∷ lines) [] h = absurd h
-forms_said (line ∷ lines) (None ∷ readings) h = forms_said lines readings h.1
-forms_said (line ∷ lines) (Some form ∷ readings) h = All-cons IsForm form (forms_in readings) h.0.0 (forms_said lines readings h.1)
+pub statements_said : (lines : List (List ℕ)) (readings : List (Option Statement)) → AreRead lines readings → All IsStatement (statements_in readings)
+statements_said [] [] h = All-nil IsStatement
+statements_said [] (r ∷ readings) h = absurd h
+statements_said (line ∷ lines) [] h = absurd h
+statements_said (line ∷ lines) (None ∷ readings) h = statements_said lines readings h.1
+statements_said (line ∷ lines) (Some statement ∷ readings) h = All-cons IsStatement statement (statements_in readings) h.0.0 (statements_said lines readings h.1)
 
-module _ (lines : List (List ℕ)) (last : List ℕ) (readings : List (Option Form)) (whole : Bool) (read : AreRead lines readings) (ends : IsTrue whole ↔ (last ≡ [])) where
+module _ (lines : List (List ℕ)) (last : List ℕ) (readings : List (Option Statement)) (whole : Bool) (read : AreRead lines readings) (ends : IsTrue whole ↔ (last ≡ [])) where
   refused_bad : (k : ℕ) → IsRefused readings whole k → IsBadLine lines last k
   refused_bad k (inl (l, e)) =
       let within : k < length lines = omega (arith, read_length lines readings read) in
@@ -59,40 +63,56 @@ module _ (lines : List (List ℕ)) (last : List ℕ) (readings : List (Option Fo
   first_bad k first = (refused_bad k first.0, λ j l. fine_not_bad j (first.1 j l))
 
   all_said : ((k : ℕ) → IsRefused readings whole k → ⊥) → AllSaid readings
-  all_said fine k l e = fine k (inl (l, ap (refuses (list_any opens (take k readings)) (λ q. list_any (defines q) (take k readings)) (λ q. list_any (defines q) readings)) e))
+  all_said fine k l e = fine k (inl (l, ap (refuses (list_any (is_some_and opens) (take k readings)) (λ q. list_any (is_some_and (defines q)) (take k readings)) (λ q. list_any (is_some_and (defines q)) readings)) e))
 
-  pub accepted : (text : List ℕ) → HasLines text lines last → ((k : ℕ) → IsRefused readings whole k → ⊥) → IsAssembly text (forms_in readings)
+  pub accepted : (text : List ℕ) → HasLines text lines last → ((k : ℕ) → IsRefused readings whole k → ⊥) → IsAssembly text (statements_in readings)
   accepted text has fine =
       let nothing : last ≡ [] = by_end (length lines) (fine (length lines)) whole refl refl in
-      let said : lines ≡ map form_line (forms_in readings) = lines_said lines readings read (all_said fine) in
+      let said : lines ≡ map statement_line (statements_in readings) = lines_said lines readings read (all_said fine) in
       record {
-        spelled = text_is_lines text (map form_line (forms_in readings)) (subst (λ ls. HasLines text ls []) said (subst (λ l. HasLines text lines l) nothing has));
-        allowed = forms_said lines readings read;
-        no_bad_line = λ k bad. fine_not_bad k (fine k) (subst (λ ls. IsBadLine ls last k) (sym said) (subst (λ l. IsBadLine (map form_line (forms_in readings)) l k) (sym nothing) bad));
+        spelled = text_is_lines text (map statement_line (statements_in readings)) (subst (λ ls. HasLines text ls []) said (subst (λ l. HasLines text lines l) nothing has));
+        allowed = statements_said lines readings read;
+        no_bad_line = λ k bad. fine_not_bad k (fine k) (subst (λ ls. IsBadLine ls last k) (sym said) (subst (λ l. IsBadLine (map statement_line (statements_in readings)) l k) (sym nothing) bad));
       }
 
 -- the lines of an assembly
-assembly_lines : (text : List ℕ) (forms : List Form) → IsAssembly text forms → HasLines text (map form_line forms) []
-assembly_lines text forms h = subst (λ t. HasLines t (map form_line forms) []) (sym h.spelled) (lines_of_forms forms h.allowed)
+assembly_lines : (text : List ℕ) (statements : List Statement) → IsAssembly text statements → HasLines text (map statement_line statements) []
+assembly_lines text statements h = subst (λ t. HasLines t (map statement_line statements) []) (sym h.spelled) (lines_of_statements statements h.allowed)
 
-forms_once : (forms more : List Form) → All IsForm forms → All IsForm more → map form_line forms ≡ map form_line more → forms ≡ more
-forms_once [] [] h k e = refl
-forms_once [] (g ∷ more) h k e = cc
-forms_once (f ∷ forms) [] h k e = cc
-forms_once (f ∷ forms) (g ∷ more) h k e =
-    let first : form_line f ≡ form_line g = cc in
-    let rest = forms_once forms more (All-tail IsForm f forms h) (All-tail IsForm g more k) (tail_same (form_line f) (form_line g) (map form_line forms) (map form_line more) e) in
-    let same = form_once f g (All-head IsForm f forms h) (All-head IsForm g more k) first in
+statements_once : (statements more : List Statement) → All IsStatement statements → All IsStatement more → map statement_line statements ≡ map statement_line more → statements ≡ more
+statements_once [] [] h k e = refl
+statements_once [] (g ∷ more) h k e = cc
+statements_once (f ∷ statements) [] h k e = cc
+statements_once (f ∷ statements) (g ∷ more) h k e =
+    let first : statement_line f ≡ statement_line g = cc in
+    let rest = statements_once statements more (All-tail IsStatement f statements h) (All-tail IsStatement g more k) (tail_same (statement_line f) (statement_line g) (map statement_line statements) (map statement_line more) e) in
+    let same = statement_once f g (All-head IsStatement f statements h) (All-head IsStatement g more k) first in
     cc
 
--- a text is the assembly of one list of forms
-pub assembly_once : (text : List ℕ) (forms more : List Form) → IsAssembly text forms → IsAssembly text more → forms ≡ more
-assembly_once text forms more h k =
-    forms_once forms more h.allowed k.allowed
-    (lines_once text (map form_line forms) (map form_line more) [] [] (assembly_lines text forms h) (assembly_lines text more k)).0
+-- a text is the assembly of one list of statements
+pub assembly_once : (text : List ℕ) (statements more : List Statement) → IsAssembly text statements → IsAssembly text more → statements ≡ more
+assembly_once text statements more h k =
+    statements_once statements more h.allowed k.allowed
+    (lines_once text (map statement_line statements) (map statement_line more) [] [] (assembly_lines text statements h) (assembly_lines text more k)).0
 
 -- and then no line of it is refused
-pub never_refused : (text : List ℕ) (forms : List Form) (line : ℕ) → IsAssembly text forms → IsRefusal text (RefusedLine line) → ⊥
-never_refused text forms line h (lines, last, k, has, first, is) =
-    let same = lines_once text lines (map form_line forms) last [] has (assembly_lines text forms h) in
-    h.no_bad_line k (subst (λ l. IsBadLine (map form_line forms) l k) same.1 (subst (λ ls. IsBadLine ls last k) same.0 first.0))
+pub never_refused : (text : List ℕ) (statements : List Statement) (line : ℕ) → IsAssembly text statements → IsRefusal text (RefusedLine line) → ⊥
+never_refused text statements line h (lines, last, k, has, first, is) =
+    let same = lines_once text lines (map statement_line statements) last [] has (assembly_lines text statements h) in
+    h.no_bad_line k (subst (λ l. IsBadLine (map statement_line statements) l k) same.1 (subst (λ ls. IsBadLine ls last k) same.0 first.0))
+
+abbrev object_with : List Line → List ObjectSymbol → List (List ℕ) → Object
+object_with words symbols needs = record { words = words; symbols = symbols; needs = needs }
+
+-- statements have one object
+one_object : (statements : List Statement) (one other : Object) → IsObjectOf statements one → IsObjectOf statements other → one ≡ other
+one_object statements one other first second =
+    ap (λ words. object_with words one.symbols one.needs) (first.has_words ∙ sym second.has_words)
+    ∙ ap (λ symbols. object_with other.words symbols one.needs) (first.has_symbols ∙ sym second.has_symbols)
+    ∙ ap (λ needs. object_with other.words other.symbols needs) (first.has_no_needs ∙ sym second.has_no_needs)
+
+-- a text assembles to one object at most
+pub assembled_once : (text : List ℕ) (one other : Object) → Assembles text one → Assembles text other → one ≡ other
+assembled_once text one other first second =
+    one_object second.0 one other
+    (subst (λ statements. IsObjectOf statements one) (assembly_once text first.0 second.0 first.1 second.1) first.2) second.2

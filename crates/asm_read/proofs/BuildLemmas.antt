@@ -1,99 +1,91 @@
 -- Words and symbols, one line more.
-use Rattle.std.proofs.Common.{All, arith, inl, inr, subst}
+use Rattle.std.proofs.Common.{◌≡◌, ◌<◌, ◌+◌, ◌*◌, ◌||◌, ◌∙◌, ℕ, List, [], ◌∷◌, ◌++◌, Bool, Option, Some, None, All, inl, inr, pos, refl, sym, ap, subst, arith, take, get_or, length, length-append}
+use Rattle.std.proofs.lemmas.Grind.{flat_map-append}
 use Rattle.std.proofs.lemmas.Int.{ints}
-use Rattle.std.proofs.lemmas.List.Elements.{All-head, All-tail}
+use Rattle.std.proofs.lemmas.List.{append-nil, append_assoc, take_more}
+use Rattle.std.proofs.lemmas.List.Elements.{All-head, All-tail, filter_map-append}
+use Rattle.std.specs.List.{list_any}
 use Rattle.rv_isa.specs.Encoding.{IsInst}
 use Rattle.rv_isa.specs.Relocation.{AreLines}
 use Rattle.rv_isa.specs.declared.inst.Inst.{Inst}
-use Rattle.asm_read.specs.Forms.{IsForm, IsRead}
-use Rattle.std.proofs.Common.{◌≡◌, ◌<◌, ◌+◌, ◌*◌, ◌||◌, ◌∙◌, ℕ, List, [], ◌∷◌, ◌++◌, Bool, Option, Some, None, pos, refl, sym, ap, take, get_or, length}
-use Rattle.std.proofs.lemmas.List.{append-nil, append_assoc, take_more}
-use Rattle.std.proofs.lemmas.List.Elements.{filter_map-append}
-use Rattle.std.specs.List.{list_any}
 use Rattle.rv_isa.specs.declared.inst.Line.{Line}
-use Rattle.rv_isa.specs.declared.inst.Line.TheVariants.{Plain}
-use Rattle.asm_read.specs.declared.object.Section as section
-use Rattle.asm_read.specs.Assembly.{marks, symbol_at, symbols_after, words}
-use Rattle.asm_read.specs.Checks.{forms_in, globals, symbol_in, word_in}
-use Rattle.asm_read.specs.declared.form.Form.{Form}
-use Rattle.asm_read.specs.declared.form.Form.TheVariants.{Text, Global, Align, Define, Code}
+use Rattle.rv_isa.specs.declared.statement.Statement.{Statement}
+use Rattle.rv_isa.specs.declared.statement.Statement.TheVariants.{Code}
+use Rattle.asm_read.specs.Assembly.{exports, is_some_and, symbol_at, symbols_after, words}
+use Rattle.asm_read.specs.Checks.{in_line, statements_in}
+use Rattle.asm_read.specs.Statements.{IsRead, IsStatement, code, defined}
 use Rattle.asm_read.specs.declared.object.ObjectSymbol.{ObjectSymbol}
+use Rattle.asm_read.specs.declared.object.Section as section
 
-words_push : (forms : List Form) (form : Form) → words (forms ++ form ∷ []) ≡ words forms ++ word_in (Some form)
-words_push [] Text = refl
-words_push [] (Global name) = refl
-words_push [] Align = refl
-words_push [] (Define name) = refl
-words_push [] (Code inst) = refl
-words_push (Text ∷ forms) form = words_push forms form
-words_push (Global name ∷ forms) form = words_push forms form
-words_push (Align ∷ forms) form = words_push forms form
-words_push (Define name ∷ forms) form = words_push forms form
-words_push (Code inst ∷ forms) form = ap (λ ws. Plain inst ∷ ws) (words_push forms form)
+-- what a line adds to the statements
+statements_more : (lines : List (Option Statement)) (k : ℕ) (line : Option Statement) → k < length lines → line ≡ get_or lines k line
+    → statements_in (take (k + 1) lines) ≡ statements_in (take k lines) ++ statements_in (line ∷ [])
+statements_more lines k line l e =
+    ap (λ xs. statements_in xs) (take_more lines k line l ∙ ap (λ x. take k lines ++ x ∷ []) (sym e)) ∙ filter_map-append (λ x. x) (take k lines) (line ∷ [])
 
-symbols_push : (all before forms : List Form) (form : Form) → symbols_after all before (forms ++ form ∷ []) ≡ symbols_after all before forms ++ symbol_at all (before ++ forms) form
-symbols_push all before [] form = append-nil (symbol_at all before form) ∙ ap (λ b. symbol_at all b form) (sym (append-nil before))
-symbols_push all before (first ∷ forms) form =
-    ap (λ xs. symbol_at all before first ++ xs) (symbols_push all (before ++ first ∷ []) forms form ∙ ap (λ b. symbols_after all (before ++ first ∷ []) forms ++ symbol_at all b form) (append_assoc before (first ∷ []) forms))
-    ∙ sym (append_assoc (symbol_at all before first) (symbols_after all (before ++ first ∷ []) forms) (symbol_at all (before ++ first ∷ forms) form))
+word_added : (line : Option Statement) → in_line code line ≡ words (statements_in (line ∷ []))
+word_added None = refl
+word_added (Some statement) = sym (append-nil (code statement))
 
--- what a line adds to the forms
-forms_more : (lines : List (Option Form)) (k : ℕ) (line : Option Form) → k < length lines → line ≡ get_or lines k line
-    → forms_in (take (k + 1) lines) ≡ forms_in (take k lines) ++ forms_in (line ∷ [])
-forms_more lines k line l e =
-    ap (λ xs. forms_in xs) (take_more lines k line l ∙ ap (λ x. take k lines ++ x ∷ []) (sym e)) ∙ filter_map-append (λ x. x) (take k lines) (line ∷ [])
-
-words_added : (forms : List Form) (line : Option Form) → words (forms ++ forms_in (line ∷ [])) ≡ words forms ++ word_in line
-words_added forms None = ap words (append-nil forms) ∙ sym (append-nil (words forms))
-words_added forms (Some form) = words_push forms form
-
-pub words_more : (lines : List (Option Form)) (k : ℕ) (line : Option Form) (old new : List Line) → k < length lines → line ≡ get_or lines k line
-    → old ≡ words (forms_in (take k lines)) → new ≡ old ++ word_in line → new ≡ words (forms_in (take (k + 1) lines))
+pub words_more : (lines : List (Option Statement)) (k : ℕ) (line : Option Statement) (old new : List Line) → k < length lines → line ≡ get_or lines k line
+    → old ≡ words (statements_in (take k lines)) → new ≡ old ++ in_line code line → new ≡ words (statements_in (take (k + 1) lines))
 words_more lines k line old new l e was is =
-    is ∙ ap (λ ws. ws ++ word_in line) was ∙ sym (words_added (forms_in (take k lines)) line) ∙ ap words (sym (forms_more lines k line l e))
+    is ∙ ap (λ ws. ws ++ in_line code line) was ∙ ap (λ ws. words (statements_in (take k lines)) ++ ws) (word_added line)
+    ∙ sym (flat_map-append code (statements_in (take k lines)) (statements_in (line ∷ []))) ∙ ap words (sym (statements_more lines k line l e))
 
-marked_is : (q : List ℕ) (lines : List (Option Form)) → list_any (globals q) lines ≡ list_any (marks q) (forms_in lines)
-marked_is q [] = refl
-marked_is q (None ∷ lines) = marked_is q lines
-marked_is q (Some Text ∷ lines) = marked_is q lines
-marked_is q (Some (Global name) ∷ lines) = ap (λ b. globals q (Some (Global name)) || b) (marked_is q lines)
-marked_is q (Some Align ∷ lines) = marked_is q lines
-marked_is q (Some (Define name) ∷ lines) = marked_is q lines
-marked_is q (Some (Code inst) ∷ lines) = marked_is q lines
+-- a test of the lines is one of the statements
+exported_is : (q : List ℕ) (lines : List (Option Statement)) → list_any (is_some_and (exports q)) lines ≡ list_any (exports q) (statements_in lines)
+exported_is q [] = refl
+exported_is q (None ∷ lines) = exported_is q lines
+exported_is q (Some statement ∷ lines) = ap (λ b. exports q statement || b) (exported_is q lines)
+
+-- the symbols of statements after others
+symbols-append : (global : List ℕ → Bool) (before : ℕ) (front back : List Statement) →
+    symbols_after global before (front ++ back) ≡ symbols_after global before front ++ symbols_after global (before + length (words front)) back
+symbols-append global before [] back = ap (λ n. symbols_after global n back) (omega arith)
+symbols-append global before (statement ∷ front) back =
+    let here : List ObjectSymbol = symbol_at global before (defined statement) in
+    let next : ℕ = before + length (code statement) in
+    let count : next + length (words front) ≡ before + length (words (statement ∷ front)) = omega (arith, length-append (code statement) (words front)) in
+    ap (λ more. here ++ more) (symbols-append global next front back ∙ ap (λ n. symbols_after global next front ++ symbols_after global n back) count)
+    ∙ sym (append_assoc here (symbols_after global next front) (symbols_after global (before + length (words (statement ∷ front))) back))
 
 abbrev symbol_of : List ℕ → Bool → ℕ → ObjectSymbol
 symbol_of name global n = record { name = name; global = global; section = section.TheVariants.Text; offset = pos (4 * n) }
 
-symbol_same : (name : List ℕ) (b d : Bool) (m n : ℕ) → b ≡ d → m ≡ n → symbol_of name b m ≡ symbol_of name d n
-symbol_same name b d m n p q = ap (λ x. symbol_of name x m) p ∙ ap (λ x. symbol_of name d x) q
+symbol_same : (g global : List ℕ → Bool) (m n : ℕ) (name : Option (List ℕ)) → ((q : List ℕ) → g q ≡ global q) → m ≡ n → symbol_at g m name ≡ symbol_at global n name
+symbol_same g global m n None same count = refl
+symbol_same g global m n (Some name) same count =
+    ap (λ b. symbol_of name b m ∷ []) (same name) ∙ ap (λ k. symbol_of name (global name) k ∷ []) count
 
-symbols_added : (all forms : List Form) (line : Option Form) (n : ℕ) (g : List ℕ → Bool) → n ≡ length (words forms) → ((q : List ℕ) → g q ≡ list_any (marks q) all)
-    → symbols_after all [] (forms ++ forms_in (line ∷ [])) ≡ symbols_after all [] forms ++ symbol_in n g line
-symbols_added all forms None n g e h = ap (symbols_after all []) (append-nil forms) ∙ sym (append-nil (symbols_after all [] forms))
-symbols_added all forms (Some Text) n g e h = symbols_push all [] forms Text
-symbols_added all forms (Some (Global name)) n g e h = symbols_push all [] forms (Global name)
-symbols_added all forms (Some Align) n g e h = symbols_push all [] forms Align
-symbols_added all forms (Some (Code inst)) n g e h = symbols_push all [] forms (Code inst)
-symbols_added all forms (Some (Define name)) n g e h = symbols_push all [] forms (Define name) ∙ ap (λ s. symbols_after all [] forms ++ s ∷ []) (symbol_same name _ _ _ _ (sym (h name)) (sym e))
+symbol_added : (g global : List ℕ → Bool) (m n : ℕ) (line : Option Statement) → ((q : List ℕ) → g q ≡ global q) → m ≡ n →
+    in_line (λ statement. symbol_at g m (defined statement)) line ≡ symbols_after global n (statements_in (line ∷ []))
+symbol_added g global m n None same count = refl
+symbol_added g global m n (Some statement) same count =
+    symbol_same g global m n (defined statement) same count ∙ sym (append-nil (symbol_at global n (defined statement)))
 
-pub symbols_more : (lines : List (Option Form)) (k : ℕ) (line : Option Form) (ws : List Line) (n : ℕ) (g : List ℕ → Bool) (old new : List ObjectSymbol) → k < length lines → line ≡ get_or lines k line
-    → ws ≡ words (forms_in (take k lines)) → ((q : List ℕ) → g q ≡ list_any (globals q) lines)
-    → old ≡ symbols_after (forms_in lines) [] (forms_in (take k lines)) → n ≡ length ws → new ≡ old ++ symbol_in n g line → new ≡ symbols_after (forms_in lines) [] (forms_in (take (k + 1) lines))
+pub symbols_more : (lines : List (Option Statement)) (k : ℕ) (line : Option Statement) (ws : List Line) (n : ℕ) (g : List ℕ → Bool) (old new : List ObjectSymbol) → k < length lines → line ≡ get_or lines k line
+    → ws ≡ words (statements_in (take k lines)) → ((q : List ℕ) → g q ≡ list_any (is_some_and (exports q)) lines)
+    → old ≡ symbols_after (λ q. list_any (exports q) (statements_in lines)) 0 (statements_in (take k lines)) → n ≡ length ws
+    → new ≡ old ++ in_line (λ statement. symbol_at g n (defined statement)) line
+    → new ≡ symbols_after (λ q. list_any (exports q) (statements_in lines)) 0 (statements_in (take (k + 1) lines))
 symbols_more lines k line ws n g old new l e told h was count is =
-    is ∙ ap (λ xs. xs ++ symbol_in n g line) was
-    ∙ sym (symbols_added (forms_in lines) (forms_in (take k lines)) line n g (count ∙ ap length told) (λ q. h q ∙ marked_is q lines))
-    ∙ ap (symbols_after (forms_in lines) []) (sym (forms_more lines k line l e))
+    let global : List ℕ → Bool = λ q. list_any (exports q) (statements_in lines) in
+    let front : List Statement = statements_in (take k lines) in
+    let counted : n ≡ 0 + length (words front) = omega (arith, count, ap length told) in
+    is ∙ ap (λ xs. xs ++ in_line (λ statement. symbol_at g n (defined statement)) line) was
+    ∙ ap (λ xs. symbols_after global 0 front ++ xs) (symbol_added g global n _ line (λ q. h q ∙ exported_is q lines) counted)
+    ∙ sym (symbols-append global 0 front (statements_in (line ∷ [])))
+    ∙ ap (symbols_after global 0) (sym (statements_more lines k line l e))
 
--- a form's instruction has a word
+-- a statement's instruction has a word
 read_is_inst : (inst : Inst) → IsRead inst → IsInst inst
 read_is_inst inst (inl h) = subst IsInst (sym h.4) (record { rd = h.2; rs1 = omega arith; rs2 = omega arith; row = (refl, h.3) })
 read_is_inst inst (inr (inl h)) = subst IsInst (sym h.5) (record { rd = h.2; rs1 = h.4; rs2 = omega arith; row = (refl, (omega (arith, ints), omega (arith, ints))) })
 read_is_inst inst (inr (inr h)) = subst IsInst (sym h) (record { rd = omega arith; rs1 = omega arith; rs2 = omega arith; row = (refl, (omega (arith, ints), omega (arith, ints))) })
 
-pub words_are_lines : (forms : List Form) → All IsForm forms → AreLines (words forms)
+pub words_are_lines : (statements : List Statement) → All IsStatement statements → AreLines (words statements)
 words_are_lines [] h = tt
-words_are_lines (Text ∷ forms) h = words_are_lines forms (All-tail IsForm Text forms h)
-words_are_lines (Global name ∷ forms) h = words_are_lines forms (All-tail IsForm (Global name) forms h)
-words_are_lines (Align ∷ forms) h = words_are_lines forms (All-tail IsForm Align forms h)
-words_are_lines (Define name ∷ forms) h = words_are_lines forms (All-tail IsForm (Define name) forms h)
-words_are_lines (Code inst ∷ forms) h = (read_is_inst inst (All-head IsForm (Code inst) forms h), words_are_lines forms (All-tail IsForm (Code inst) forms h))
+words_are_lines (Code inst ∷ statements) h =
+    (read_is_inst inst (All-head IsStatement (Code inst) statements h), words_are_lines statements (All-tail IsStatement (Code inst) statements h))
+words_are_lines (other ∷ statements) h = words_are_lines statements (All-tail IsStatement other statements h)

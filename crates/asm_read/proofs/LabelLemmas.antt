@@ -2,8 +2,7 @@
 use Rattle.std.proofs.Common.{◌≡◌, ◌&&◌, ℕ, List, [], ◌∷◌, ◌++◌, Bool, true, codes, sym, ap, ◌∙◌, arith, IsTrue, ◌↔◌}
 use Rattle.std.proofs.lemmas.Bool.Decides.{nat_tests}
 use Rattle.std.specs.List.{list_all}
-use Rattle.rv_isa.specs.Symbol.{is_digit}
-use Rattle.asm_read.specs.Forms.{IsLabel, is_number}
+use Rattle.rv_isa.specs.Symbol.{IsLabel, is_digit, is_number}
 use Rattle.asm_read.specs.Names.{IsAbsent, IsCut}
 use Rattle.asm_read.proofs.BytesLemmas.{cut_once}
 

@@ -8,7 +8,8 @@ pub mod NameLemmas
 pub mod CheckLemmas
 pub mod TextLemmas
 pub mod BuildLemmas
-pub mod FormLemmas
+pub mod StatementLemmas
+pub mod CodeLemmas
 pub mod FeedLemmas
 pub mod PieceLemmas
 pub mod ReadLemmas

@@ -4,7 +4,7 @@ use Rattle.std.proofs.lemmas.Bool.Decides.{nat_tests}
 use Rattle.std.specs.Fmt.{signed_decimal}
 use Rattle.rv_isa.specs.Text.{register, operands, spelled_line, instruction_line}
 use Rattle.rv_isa.specs.declared.inst.Inst.{Inst}
-use Rattle.asm_read.specs.Forms.{IsLi, IsMv}
+use Rattle.asm_read.specs.Statements.{IsLi, IsMv}
 use Rattle.rv_isa.specs.Instructions.{li, mv}
 use Rattle.asm_read.specs.Names.{IsAbsent}
 use Rattle.asm_read.proofs.BytesLemmas.{cut_once, tail_same}

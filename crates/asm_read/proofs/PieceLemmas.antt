@@ -5,10 +5,11 @@ use Rattle.std.proofs.lemmas.List.{append-nil, append_assoc}
 use Rattle.std.proofs.lemmas.List.Elements.{All-head, All-tail}
 use Rattle.rv_isa.specs.Lines.{ended, in_first, pieces_of, text_of_lines}
 use Rattle.asm_read.specs.Assembly.{HasLines}
-use Rattle.asm_read.specs.Forms.{IsForm, form_line}
-use Rattle.asm_read.specs.declared.form.Form.{Form}
+use Rattle.asm_read.specs.Statements.{IsStatement}
+use Rattle.rv_isa.specs.declared.statement.Statement.{Statement}
 use Rattle.asm_read.proofs.BytesLemmas.{end_same, last_same}
-use Rattle.asm_read.proofs.FeedLemmas.{form_unfed}
+use Rattle.asm_read.proofs.FeedLemmas.{statement_unfed}
+use Rattle.rv_isa.specs.Statements.{statement_line}
 use Rattle.asm_read.proofs.TextLemmas.{line_is_first}
 
 -- each piece after a line feed
@@ -71,12 +72,12 @@ pub text_is_lines : (text : List ℕ) (lines : List (List ℕ)) → HasLines tex
 text_is_lines text lines e = sym (pieces_together text) ∙ ap (λ ps. together ps) e ∙ lines_together lines
 
 -- the lines of the grammar's texts
-pub lines_of_forms : (forms : List Form) → All IsForm forms → HasLines (text_of_lines (map form_line forms)) (map form_line forms) []
-lines_of_forms [] h = refl
-lines_of_forms (form ∷ forms) h =
-    ap pieces_of (append_assoc (form_line form) (10 ∷ []) (text_of_lines (map form_line forms)))
-    ∙ line_is_first (form_line form) (text_of_lines (map form_line forms)) (form_unfed form (All-head IsForm form forms h))
-    ∙ ap (λ ps. form_line form ∷ ps) (lines_of_forms forms (All-tail IsForm form forms h))
+pub lines_of_statements : (statements : List Statement) → All IsStatement statements → HasLines (text_of_lines (map statement_line statements)) (map statement_line statements) []
+lines_of_statements [] h = refl
+lines_of_statements (statement ∷ statements) h =
+    ap pieces_of (append_assoc (statement_line statement) (10 ∷ []) (text_of_lines (map statement_line statements)))
+    ∙ line_is_first (statement_line statement) (text_of_lines (map statement_line statements)) (statement_unfed statement (All-head IsStatement statement statements h))
+    ∙ ap (λ ps. statement_line statement ∷ ps) (lines_of_statements statements (All-tail IsStatement statement statements h))
 
 pub lines_once : (text : List ℕ) (lines more : List (List ℕ)) (last end : List ℕ) → HasLines text lines last → HasLines text more end → (lines ≡ more) × (last ≡ end)
 lines_once text lines more last end h k = (last_same lines more last end (sym h ∙ k), end_same lines more last end (sym h ∙ k))

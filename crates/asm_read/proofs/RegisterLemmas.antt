@@ -54,6 +54,3 @@ absent_from_test b (x ∷ xs) h = (other_from_test x b _ h, absent_from_test b x
 
 pub register_absent : (r : ℕ) → r < 32 → IsAbsent 44 (register r)
 register_absent r h = absent_from_test 44 (register r) (below_holds 32 (λ r. has_no 44 (register r)) refl r h)
-
-pub register_unfed : (r : ℕ) → r < 32 → IsAbsent 10 (register r)
-register_unfed r h = absent_from_test 10 (register r) (below_holds 32 (λ r. has_no 10 (register r)) refl r h)

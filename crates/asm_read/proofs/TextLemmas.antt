@@ -4,10 +4,10 @@ use Rattle.std.proofs.lemmas.Bool.Decides.{nat_tests}
 use Rattle.std.proofs.lemmas.List.{append_assoc}
 use Rattle.rv_isa.specs.Lines.{in_first, pieces_of}
 use Rattle.asm_read.specs.Checks.{AreRead}
-use Rattle.asm_read.specs.Forms.{Says}
+use Rattle.asm_read.specs.Statements.{Says}
 use Rattle.asm_read.specs.Names.{IsAbsent}
 use Rattle.asm_read.specs.Readings.{Reads}
-use Rattle.asm_read.specs.declared.form.Form.{Form}
+use Rattle.rv_isa.specs.declared.statement.Statement.{Statement}
 
 other_byte : (b : ℕ) → b ≢ 10 → (b == 10) ≡ false
 other_byte b n = grind (arith, nat_tests)
@@ -32,16 +32,16 @@ pub last_piece : (rest : List ℕ) → ((front back : List ℕ) → rest ≡ fro
 last_piece rest none = rest_is_last rest (absent_without 10 rest none)
 
 -- the lines up to `rest` are read
-abbrev pub AreReadUpTo : List ℕ → List (Option Form) → List ℕ → Type 0
+abbrev pub AreReadUpTo : List ℕ → List (Option Statement) → List ℕ → Type 0
 AreReadUpTo text readings rest = (lines : List (List ℕ)) × AreRead lines readings × (pieces_of text ≡ lines ++ pieces_of rest)
 
-read_push : (lines : List (List ℕ)) (readings : List (Option Form)) (line : List ℕ) (reading : Option Form) → AreRead lines readings → Reads (Says line) reading → AreRead (lines ++ line ∷ []) (readings ++ reading ∷ [])
+read_push : (lines : List (List ℕ)) (readings : List (Option Statement)) (line : List ℕ) (reading : Option Statement) → AreRead lines readings → Reads (Says line) reading → AreRead (lines ++ line ∷ []) (readings ++ reading ∷ [])
 read_push [] [] line reading h r = (r, tt)
 read_push [] (y ∷ readings) line reading h r = absurd h
 read_push (x ∷ lines) [] line reading h r = absurd h
 read_push (x ∷ lines) (y ∷ readings) line reading h r = (h.0, read_push lines readings line reading h.1 r)
 
-pub one_line_more : (text rest line after : List ℕ) (readings : List (Option Form)) (reading : Option Form) → rest ≡ line ++ 10 ∷ after → IsAbsent 10 line → Reads (Says line) reading
+pub one_line_more : (text rest line after : List ℕ) (readings : List (Option Statement)) (reading : Option Statement) → rest ≡ line ++ 10 ∷ after → IsAbsent 10 line → Reads (Says line) reading
     → AreReadUpTo text readings rest → AreReadUpTo text (readings ++ reading ∷ []) after
 one_line_more text rest line after readings reading cut absent read upto = (
   upto.0 ++ line ∷ [],

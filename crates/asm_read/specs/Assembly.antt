@@ -1,13 +1,13 @@
 -- The texts that are assembled, their objects, and the line at which another text is refused.
-use Rattle.std.specs.Prelude.{◌≡◌, ◌≢◌, ◌+◌, ◌*◌, ◌<◌, ◌⊎◌, ℕ, pos, Bool, false, List, [], ◌∷◌, ◌++◌, length, take, map, slice_index_or}
-use Rattle.std.specs.List.{All, Contains, list_any}
+use Rattle.std.specs.Prelude.{◌≡◌, ◌≢◌, ◌+◌, ◌*◌, ◌<◌, ◌||◌, ◌⊎◌, ℕ, pos, Bool, true, false, not, Option, Some, None, is_some, List, [], ◌∷◌, ◌++◌, length, take, map, slice_index_or}
+use Rattle.std.specs.List.{All, Contains, flat_map, list_any}
 use Rattle.std.specs.Str.{bytes_eq}
 use Rattle.rv_isa.specs.Lines.{pieces_of, text_of_lines}
+use Rattle.rv_isa.specs.Statements.{statement_line}
 use Rattle.rv_isa.specs.declared.inst.Line.{Line}
-use Rattle.rv_isa.specs.declared.inst.Line.TheVariants.{Plain}
-use Rattle.asm_read.specs.Forms.{IsForm, Says, form_line}
-use Rattle.asm_read.specs.declared.form.Form.{Form}
-use Rattle.asm_read.specs.declared.form.Form.TheVariants.{Text, Global, Align, Define, Code}
+use Rattle.rv_isa.specs.declared.statement.Statement.{Statement}
+use Rattle.rv_isa.specs.declared.statement.Statement.TheVariants.{Text, Global, Define}
+use Rattle.asm_read.specs.Statements.{IsStatement, Says, code, defined, exported, opens}
 use Rattle.asm_read.specs.declared.object.Object.{Object}
 use Rattle.asm_read.specs.declared.object.ObjectSymbol.{ObjectSymbol}
 use Rattle.asm_read.specs.declared.object.Section as section
@@ -18,24 +18,20 @@ use Rattle.asm_read.specs.declared.refusal.AsmRefusal.TheVariants.{Line as Refus
 abbrev pub HasLines : List ℕ → List (List ℕ) → List ℕ → Type 0
 HasLines text lines last = pieces_of text ≡ lines ++ last ∷ []
 
--- what must not stand before the first section line
-abbrev pub NeedsSection : Form → Type 0
-NeedsSection Text = ⊥
-NeedsSection (Global name) = ⊥
-NeedsSection Align = Unit {0}
-NeedsSection (Define name) = Unit {0}
-NeedsSection (Code inst) = Unit {0}
+-- what must not stand before the first section line: all but that line, and those that export a name
+abbrev pub needs_section : Statement → Bool
+needs_section statement = not (opens statement || is_some (exported statement))
 
 -- why a line is refused, by all lines of its text and those before it
 pub data IsBad (lines before : List (List ℕ)) (line : List ℕ) : Type 0 where
   -- it is outside the grammar
-  outside : ((form : Form) → Says line form → ⊥) → IsBad lines before line
+  outside : ((statement : Statement) → Says line statement → ⊥) → IsBad lines before line
   -- no section line is before it
-  early : (form : Form) → Says line form → NeedsSection form → ¬ (Contains before (form_line Text)) → IsBad lines before line
+  early : (statement : Statement) → Says line statement → needs_section statement ≡ true → ¬ (Contains before (statement_line Text)) → IsBad lines before line
   -- it defines a name for the second time
   again : (name : List ℕ) → Says line (Define name) → Contains before line → IsBad lines before line
-  -- it marks a name that no line defines
-  unknown : (name : List ℕ) → Says line (Global name) → ¬ (Contains lines (form_line (Define name))) → IsBad lines before line
+  -- it exports a name that no line defines
+  unknown : (name : List ℕ) → Says line (Global name) → ¬ (Contains lines (statement_line (Define name))) → IsBad lines before line
 
 -- Line k, counted from 0, is refused. What stands after the last line feed is refused as a line.
 abbrev pub IsBadLine : List (List ℕ) → List ℕ → ℕ → Type 0
@@ -45,47 +41,50 @@ IsBadLine lines last k =
 abbrev pub IsFirstBad : List (List ℕ) → List ℕ → ℕ → Type 0
 IsFirstBad lines last k = IsBadLine lines last k × ((j : ℕ) → j < k → IsBadLine lines last j → ⊥)
 
--- the text says the forms, and no line is refused
-pub record IsAssembly (text : List ℕ) (forms : List Form) : Type 0 where
-  pub spelled : text ≡ text_of_lines (map form_line forms)
-  pub allowed : All IsForm forms
-  pub no_bad_line : (k : ℕ) → IsBadLine (map form_line forms) [] k → ⊥
+-- the text says the statements, and no line is refused
+pub record IsAssembly (text : List ℕ) (statements : List Statement) : Type 0 where
+  pub spelled : text ≡ text_of_lines (map statement_line statements)
+  pub allowed : All IsStatement statements
+  pub no_bad_line : (k : ℕ) → IsBadLine (map statement_line statements) [] k → ⊥
+
+-- the test of what is there, and false where there is nothing
+abbrev pub is_some_and : {A : Type 0} → (A → Bool) → Option A → Bool
+is_some_and test None = false
+is_some_and test (Some x) = test x
+
+-- the statement defines the name, or exports it
+abbrev pub defines : List ℕ → Statement → Bool
+defines name statement = is_some_and (bytes_eq name) (defined statement)
+
+abbrev pub exports : List ℕ → Statement → Bool
+exports name statement = is_some_and (bytes_eq name) (exported statement)
 
 -- the instructions in their order
-abbrev pub words : List Form → List Line
-words [] = []
-words (Text ∷ forms) = words forms
-words (Global name ∷ forms) = words forms
-words (Align ∷ forms) = words forms
-words (Define name ∷ forms) = words forms
-words (Code inst ∷ forms) = Plain inst ∷ words forms
+abbrev pub words : List Statement → List Line
+words statements = flat_map code statements
 
-abbrev pub marks : List ℕ → Form → Bool
-marks name Text = false
-marks name (Global other) = bytes_eq name other
-marks name Align = false
-marks name (Define other) = false
-marks name (Code inst) = false
+-- The symbol of a name after so many instructions, each of which has four bytes; `global` says which names are
+-- exported.
+abbrev pub symbol_at : (List ℕ → Bool) → ℕ → Option (List ℕ) → List ObjectSymbol
+symbol_at global before None = []
+symbol_at global before (Some name) =
+    record { name = name; global = global name; section = section.TheVariants.Text; offset = pos (4 * before) } ∷ []
 
--- the symbol that a form defines after the forms before it, each of whose instructions has four bytes
-abbrev pub symbol_at : List Form → List Form → Form → List ObjectSymbol
-symbol_at all before Text = []
-symbol_at all before (Global name) = []
-symbol_at all before Align = []
-symbol_at all before (Define name) =
-    record { name = name; global = list_any (marks name) all; section = section.TheVariants.Text; offset = pos (4 * length (words before)) } ∷ []
-symbol_at all before (Code inst) = []
+-- the symbols that statements define after so many instructions, in their order
+abbrev pub symbols_after : (List ℕ → Bool) → ℕ → List Statement → List ObjectSymbol
+symbols_after global before [] = []
+symbols_after global before (statement ∷ statements) =
+    symbol_at global before (defined statement) ++ symbols_after global (before + length (code statement)) statements
 
--- the symbols that the forms after `before` define, in their order
-abbrev pub symbols_after : List Form → List Form → List Form → List ObjectSymbol
-symbols_after all before [] = []
-symbols_after all before (form ∷ forms) = symbol_at all before form ++ symbols_after all (before ++ form ∷ []) forms
-
--- what the forms assemble to
-pub record IsObjectOf (forms : List Form) (object : Object) : Type 0 where
-  pub has_words : object.words ≡ words forms
-  pub has_symbols : object.symbols ≡ symbols_after forms [] forms
+-- what the statements assemble to
+pub record IsObjectOf (statements : List Statement) (object : Object) : Type 0 where
+  pub has_words : object.words ≡ words statements
+  pub has_symbols : object.symbols ≡ symbols_after (λ name. list_any (exports name) statements) 0 statements
   pub has_no_needs : object.needs ≡ []
+
+-- the text assembles to the object
+abbrev pub Assembles : List ℕ → Object → Type 0
+Assembles text object = (statements : List Statement) × IsAssembly text statements × IsObjectOf statements object
 
 -- a refusal names the first line that is refused, counted from 1
 abbrev pub IsRefusal : List ℕ → AsmRefusal → Type 0
@@ -93,10 +92,10 @@ IsRefusal text (RefusedLine line) =
     (lines : List (List ℕ)) × (last : List ℕ) × (k : ℕ) × HasLines text lines last × IsFirstBad lines last k × (line ≡ k + 1)
 IsRefusal text NoMemory = Unit {0}
 
--- The forms are of the grammar, the section comes first, no name is defined twice, and each name that
--- is marked is defined.
-pub record AreOrdered (forms : List Form) : Type 0 where
-  pub allowed : All IsForm forms
-  pub begins : (forms ≡ []) ⊎ ((rest : List Form) × (forms ≡ Text ∷ rest))
-  pub once : (before after : List Form) (name : List ℕ) → forms ≡ before ++ Define name ∷ after → Contains before (Define name) → ⊥
-  pub known : (name : List ℕ) → Contains forms (Global name) → Contains forms (Define name)
+-- The statements are of the grammar, the section comes first, no name is defined twice, and each name that
+-- is exported is defined.
+pub record AreOrdered (statements : List Statement) : Type 0 where
+  pub allowed : All IsStatement statements
+  pub begins : (statements ≡ []) ⊎ ((rest : List Statement) × (statements ≡ Text ∷ rest))
+  pub once : (before after : List Statement) (name : List ℕ) → statements ≡ before ++ Define name ∷ after → Contains before (Define name) → ⊥
+  pub known : (name : List ℕ) → Contains statements (Global name) → Contains statements (Define name)

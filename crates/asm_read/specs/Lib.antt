@@ -1,5 +1,5 @@
 pub mod Assembly
 pub mod Checks
-pub mod Forms
 pub mod Names
 pub mod Readings
+pub mod Statements

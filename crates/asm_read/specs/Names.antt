@@ -1,6 +1,5 @@
 -- Parts of a name's spelling.
-use Rattle.std.specs.Prelude.{◌≡◌, ◌≢◌, ◌+◌, ◌/◌, ◌%◌, ◌<◌, ◌&&◌, ℕ, Bool, nat_le, List, [], ◌∷◌, ◌++◌}
-use Rattle.std.specs.List.{All}
+use Rattle.std.specs.Prelude.{◌≡◌, ◌≢◌, ◌+◌, ◌/◌, ◌%◌, ◌&&◌, ℕ, Bool, nat_le, List, [], ◌∷◌, ◌++◌}
 
 abbrev pub is_printable : ℕ → Bool
 is_printable b = nat_le 32 b && nat_le b 126
@@ -8,10 +7,6 @@ is_printable b = nat_le 32 b && nat_le b 126
 -- three octal digits
 abbrev pub octal : ℕ → List ℕ
 octal b = (48 + b / 64) ∷ (48 + b / 8 % 8) ∷ (48 + b % 8) ∷ []
-
--- bytes from 0 to 255
-abbrev pub AreBytes : List ℕ → Type 0
-AreBytes bytes = All (λ b. b < 256) bytes
 
 -- b is none of the bytes
 abbrev pub IsAbsent : ℕ → List ℕ → Type 0

@@ -1,14 +1,15 @@
 //! The assembler.
 ghost use Rattle.std.specs.Prelude.{◌≡◌, ◌+◌, ℕ, List, IfErr, IfOk, MatchOption, MatchResult, map};
 ghost use Rattle.rv_isa.specs.Lines.{text_of_lines};
-ghost use Rattle.asm_read.specs.Assembly.{AreOrdered, IsAssembly, IsObjectOf, IsRefusal};
+ghost use Rattle.asm_read.specs.Assembly.{AreOrdered, Assembles, IsAssembly, IsObjectOf, IsRefusal};
 ghost use Rattle.std.specs.List.{All};
-ghost use Rattle.asm_read.specs.Forms.{IsForm, form_line};
-ghost use Rattle.asm_read.specs.Checks.{IsFirstRefused, IsRefused, forms_in};
-ghost use Rattle.asm_read.specs.declared.form.Form.{Form};
+ghost use Rattle.rv_isa.specs.Statements.{statement_line};
+ghost use Rattle.asm_read.specs.Statements.{IsStatement};
+ghost use Rattle.asm_read.specs.Checks.{IsFirstRefused, IsRefused, statements_in};
+ghost use Rattle.rv_isa.specs.declared.statement.Statement.{Statement};
 
 use crate::build::object_of;
-use crate::check::{defined_names, first_refused, global_names};
+use crate::check::{defined_names, exported_names, first_refused};
 use crate::lines::{Lines, read_lines};
 use crate::object::Object;
 use crate::refusal::AsmRefusal;
@@ -36,27 +37,26 @@ fn refused_line(alloc: Global, lines: &Lines) -> Result<Option<u64>, AllocError>
 
 /// The object of the lines of a text.
 fn build(alloc: Global, lines: &Lines) -> Result<Object, AllocError>
-    requires { All IsForm (forms_in lines.now.readings.items) }
-    ensures { IfOk result (IsObjectOf (forms_in lines.now.readings.items)) }
+    requires { All IsStatement (statements_in lines.now.readings.items) }
+    ensures { IfOk result (IsObjectOf (statements_in lines.now.readings.items)) }
 {
     let readings = lines.readings.as_slice();
-    let globals = global_names(alloc, readings)?;
+    let globals = exported_names(alloc, readings)?;
     object_of(alloc, readings, &globals)
 }
 
 /// Assembles a text: sections, symbols and instructions, each spelled as the code generator
 /// spells it. A line outside this grammar is refused, as is one that stands before the first
-/// section and needs one, one that defines a name for the second time, one that marks a name
+/// section and needs one, one that defines a name for the second time, one that exports a name
 /// which the text does not define, and one without a line feed at its end.
 ///
 /// # Errors
 ///
 /// `Line` for the first line that is refused, and `NoMemory` where memory runs out.
 pub fn assemble(alloc: Global, text: &[u8]) -> Result<Object, AsmRefusal>
-    ensures object { IfOk result (λ object.
-        (forms : List Form) × IsAssembly text.now forms × IsObjectOf forms object) }
-    ensures only { (forms : List Form) → IsAssembly text.now forms
-        → MatchResult result (IsObjectOf forms) (λ refusal. refusal ≡ AsmRefusal.NoMemory) }
+    ensures object { IfOk result (Assembles text.now) }
+    ensures only { (statements : List Statement) → IsAssembly text.now statements
+        → MatchResult result (IsObjectOf statements) (λ refusal. refusal ≡ AsmRefusal.NoMemory) }
     ensures line { IfErr result (IsRefusal text.now) }
 {
     let Ok(lines) = read_lines(alloc, text) else {
@@ -74,8 +74,8 @@ pub fn assemble(alloc: Global, text: &[u8]) -> Result<Object, AsmRefusal>
 }
 
 /// A text is an assembly, which [`assemble`] takes, where its first line begins the section,
-/// it defines no name twice, and it defines each name that it marks as global.
+/// it defines no name twice, and it defines each name that it exports.
 pub fn ordered_lines_are_assembled()
-    ensures { (forms : List Form) → AreOrdered forms
-        → IsAssembly (text_of_lines (map form_line forms)) forms }
+    ensures { (statements : List Statement) → AreOrdered statements
+        → IsAssembly (text_of_lines (map statement_line statements)) statements }
 {}

@@ -1,20 +1,19 @@
 //! The object of a text.
 ghost use Rattle.std.specs.Prelude.{◌≡◌, ◌*◌, ◌++◌, ℕ, List, pos, IfOk, OnOk};
 ghost use Rattle.std.specs.List.{All, list_any};
-ghost use Rattle.asm_read.specs.Assembly.{IsObjectOf};
-ghost use Rattle.asm_read.specs.Forms.{IsForm};
-ghost use Rattle.asm_read.specs.Checks as checks;
-ghost use Rattle.asm_read.specs.Checks.{forms_in, has, symbol_in, word_in};
+ghost use Rattle.asm_read.specs.Assembly.{IsObjectOf, exports, is_some_and, symbol_at};
+ghost use Rattle.asm_read.specs.Checks.{has, in_line, statements_in};
+ghost use Rattle.asm_read.specs.Statements as statements;
+ghost use Rattle.asm_read.specs.Statements.{IsStatement, defined};
 
-use crate::form::Form;
 use crate::names::has_name;
 use crate::object::{Needs, Object, ObjectSymbol, Section, Symbols, Words};
-use rv_isa::{Line, SymName};
+use rv_isa::{Line, Statement, SymName};
 use std::alloc::{AllocError, Global};
 use std::collections::HashSet;
 
 /// The symbol of this name after so many instructions, where `globals` has the names that are
-/// marked as global.
+/// exported.
 fn symbol_after(
     alloc: Global,
     instructions: usize,
@@ -38,10 +37,10 @@ fn symbol_after(
 }
 
 /// Adds the instruction of a line.
-fn add_word(words: &mut Vec<Line>, line: &Option<Form>) -> Result<(), AllocError>
-    ensures { OnOk result (words.new.items ≡ words.old.items ++ word_in line.now) }
+fn add_word(words: &mut Vec<Line>, line: &Option<Statement>) -> Result<(), AllocError>
+    ensures { OnOk result (words.new.items ≡ words.old.items ++ in_line statements.code line.now) }
 {
-    if let Some(Form::Code(inst)) = line {
+    if let Some(Statement::Code(inst)) = line {
         words.push(Line::Plain(*inst))?;
     }
     Ok(())
@@ -52,27 +51,28 @@ fn add_symbol(
     alloc: Global,
     symbols: &mut Vec<ObjectSymbol>,
     instructions: usize,
-    line: &Option<Form>,
+    line: &Option<Statement>,
     globals: &HashSet<&[u8]>,
 ) -> Result<(), AllocError>
     ensures { OnOk result
-        (symbols.new.items ≡ symbols.old.items ++ symbol_in instructions (has globals.now) line.now) }
+        (symbols.new.items ≡ symbols.old.items
+        ++ in_line (λ statement. symbol_at (has globals.now) instructions (defined statement)) line.now) }
 {
-    if let Some(Form::Define(name)) = line {
+    if let Some(Statement::Define(name)) = line {
         symbols.push(symbol_after(alloc, instructions, name, globals)?)?;
     }
     Ok(())
 }
 
-/// The object of a text with these lines, where `globals` has the names that they mark as global.
+/// The object of a text with these lines, where `globals` has the names that they export.
 pub fn object_of(
     alloc: Global,
-    lines: &[Option<Form>],
+    lines: &[Option<Statement>],
     globals: &HashSet<&[u8]>,
 ) -> Result<Object, AllocError>
-    requires forms { All IsForm (forms_in lines.now) }
-    requires globals { (q : List ℕ) → has globals.now q ≡ list_any (checks.globals q) lines.now }
-    ensures { IfOk result (IsObjectOf (forms_in lines.now)) }
+    requires grammar { All IsStatement (statements_in lines.now) }
+    requires globals { (q : List ℕ) → has globals.now q ≡ list_any (is_some_and (exports q)) lines.now }
+    ensures { IfOk result (IsObjectOf (statements_in lines.now)) }
 {
     let mut words = Vec::new(alloc);
     let mut symbols = Vec::new(alloc);

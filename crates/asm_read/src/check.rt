@@ -1,49 +1,55 @@
 //! The lines that are refused.
-ghost use Rattle.std.specs.Prelude.{◌≡◌, ◌<◌, ◌||◌, ℕ, List, true, false, length, IfOk, OnOk, MatchOption};
+ghost use Rattle.std.specs.Prelude.{◌≡◌, ◌<◌, ◌||◌, ℕ, List, true, false, not, length, IfOk, OnOk, MatchOption};
 ghost use Rattle.std.specs.List.{list_any};
 ghost use Rattle.std.specs.Str.{bytes_eq};
+ghost use Rattle.asm_read.specs.Assembly.{defines, exports, is_some_and};
 ghost use Rattle.asm_read.specs.Checks as checks;
-ghost use Rattle.asm_read.specs.Checks.{defines, globals, has, refuses, refuses_at};
+ghost use Rattle.asm_read.specs.Checks.{has, refuses, refuses_at};
+ghost use Rattle.asm_read.specs.Statements as statements;
+ghost use Rattle.asm_read.specs.Statements.{defined, exported};
 
-use crate::form::Form;
 use crate::names::{add_name, has_name};
+use rv_isa::Statement;
 use std::alloc::{AllocError, Global};
 use std::collections::HashSet;
 
 /// Whether a line begins the text section.
-fn opens(line: &Option<Form>) -> bool
-    ensures { result ≡ checks.opens line.now }
+fn opens(line: &Option<Statement>) -> bool
+    ensures { result ≡ is_some_and statements.opens line.now }
 {
-    matches!(line, Some(Form::Text))
+    matches!(line, Some(Statement::Text))
 }
 
 /// The name that a line defines.
-fn defined_name(line: &Option<Form>) -> Option<&[u8]>
+fn defined_name(line: &Option<Statement>) -> Option<&[u8]>
     ensures { MatchOption result
-        ((q : List ℕ) → defines q line.now ≡ false)
-        (λ name. (q : List ℕ) → defines q line.now ≡ bytes_eq q name.now) }
+        ((q : List ℕ) → is_some_and (defines q) line.now ≡ false)
+        (λ name. (q : List ℕ) → is_some_and (defines q) line.now ≡ bytes_eq q name.now) }
 {
     match line {
-        Some(Form::Define(name)) => Some(name.as_bytes()),
+        Some(Statement::Define(name)) => Some(name.as_bytes()),
         _ => None,
     }
 }
 
-/// The name that a line marks as global.
-fn global_name(line: &Option<Form>) -> Option<&[u8]>
+/// The name that a line exports.
+fn exported_name(line: &Option<Statement>) -> Option<&[u8]>
     ensures { MatchOption result
-        ((q : List ℕ) → globals q line.now ≡ false)
-        (λ name. (q : List ℕ) → globals q line.now ≡ bytes_eq q name.now) }
+        ((q : List ℕ) → is_some_and (exports q) line.now ≡ false)
+        (λ name. (q : List ℕ) → is_some_and (exports q) line.now ≡ bytes_eq q name.now) }
 {
     match line {
-        Some(Form::Global(name)) => Some(name.as_bytes()),
+        Some(Statement::Global(name)) => Some(name.as_bytes()),
         _ => None,
     }
 }
 
 /// Adds the name that a line defines.
-fn add_defined<'a>(names: &mut HashSet<&'a [u8]>, line: &'a Option<Form>) -> Result<(), AllocError>
-    ensures { OnOk result ((q : List ℕ) → has names.new q ≡ (defines q line.now || has names.old q)) }
+fn add_defined<'a>(
+    names: &mut HashSet<&'a [u8]>,
+    line: &'a Option<Statement>,
+) -> Result<(), AllocError>
+    ensures { OnOk result ((q : List ℕ) → has names.new q ≡ (is_some_and (defines q) line.now || has names.old q)) }
 {
     match defined_name(line) {
         Some(name) => add_name(names, name),
@@ -51,19 +57,25 @@ fn add_defined<'a>(names: &mut HashSet<&'a [u8]>, line: &'a Option<Form>) -> Res
     }
 }
 
-/// Adds the name that a line marks as global.
-fn add_global<'a>(names: &mut HashSet<&'a [u8]>, line: &'a Option<Form>) -> Result<(), AllocError>
-    ensures { OnOk result ((q : List ℕ) → has names.new q ≡ (globals q line.now || has names.old q)) }
+/// Adds the name that a line exports.
+fn add_exported<'a>(
+    names: &mut HashSet<&'a [u8]>,
+    line: &'a Option<Statement>,
+) -> Result<(), AllocError>
+    ensures { OnOk result ((q : List ℕ) → has names.new q ≡ (is_some_and (exports q) line.now || has names.old q)) }
 {
-    match global_name(line) {
+    match exported_name(line) {
         Some(name) => add_name(names, name),
         None => Ok(()),
     }
 }
 
 /// The names that the lines define.
-pub fn defined_names(alloc: Global, lines: &[Option<Form>]) -> Result<HashSet<&[u8]>, AllocError>
-    ensures { IfOk result (λ names. (q : List ℕ) → has names q ≡ list_any (defines q) lines.now) }
+pub fn defined_names(
+    alloc: Global,
+    lines: &[Option<Statement>],
+) -> Result<HashSet<&[u8]>, AllocError>
+    ensures { IfOk result (λ names. (q : List ℕ) → has names q ≡ list_any (is_some_and (defines q)) lines.now) }
 {
     let mut names = HashSet::new(alloc);
     for line in lines {
@@ -72,44 +84,73 @@ pub fn defined_names(alloc: Global, lines: &[Option<Form>]) -> Result<HashSet<&[
     Ok(names)
 }
 
-/// The names that the lines mark as global.
-pub fn global_names(alloc: Global, lines: &[Option<Form>]) -> Result<HashSet<&[u8]>, AllocError>
-    ensures { IfOk result (λ names. (q : List ℕ) → has names q ≡ list_any (globals q) lines.now) }
+/// The names that the lines export.
+pub fn exported_names(
+    alloc: Global,
+    lines: &[Option<Statement>],
+) -> Result<HashSet<&[u8]>, AllocError>
+    ensures { IfOk result (λ names. (q : List ℕ) → has names q ≡ list_any (is_some_and (exports q)) lines.now) }
 {
     let mut names = HashSet::new(alloc);
     for line in lines {
-        add_global(&mut names, line)?;
+        add_exported(&mut names, line)?;
     }
     Ok(names)
 }
 
-/// Whether a line is refused, where `opened` says that a section line is before it, `seen` has
-/// the names that are defined before it, and `defined` all that are.
-fn is_refused(
-    line: &Option<Form>,
-    opened: bool,
-    seen: &HashSet<&[u8]>,
-    defined: &HashSet<&[u8]>,
-) -> bool
-    ensures { result ≡ refuses opened (has seen.now) (has defined.now) line.now }
+/// Whether a statement needs a section, and none is before it.
+fn is_early(statement: &Statement, opened: bool) -> bool
+    ensures { result ≡ checks.is_early opened statement.now }
 {
-    match line {
-        None => true,
-        Some(Form::Text) => false,
-        Some(Form::Global(name)) => !has_name(defined, name.as_bytes()),
-        Some(Form::Define(name)) => !opened | has_name(seen, name.as_bytes()),
-        Some(Form::Align | Form::Code(_)) => !opened,
+    !matches!(statement, Statement::Text | Statement::Global(_)) & !opened
+}
+
+/// Whether a statement defines a name that is defined before it.
+fn is_again(statement: &Statement, seen: &HashSet<&[u8]>) -> bool
+    ensures { result ≡ is_some_and (has seen.now) (defined statement.now) }
+{
+    match statement {
+        Statement::Define(name) => has_name(seen, name.as_bytes()),
+        _ => false,
     }
 }
 
-/// The place of the first line that is refused, where `defined` has the names that the lines
+/// Whether a statement exports a name that no line defines.
+fn is_unknown(statement: &Statement, known: &HashSet<&[u8]>) -> bool
+    ensures { result ≡ is_some_and (λ name. not (has known.now name)) (exported statement.now) }
+{
+    match statement {
+        Statement::Global(name) => !has_name(known, name.as_bytes()),
+        _ => false,
+    }
+}
+
+/// Whether a line is refused, where `opened` says that a section line is before it, `seen` has
+/// the names that are defined before it, and `known` all that are.
+fn is_refused(
+    line: &Option<Statement>,
+    opened: bool,
+    seen: &HashSet<&[u8]>,
+    known: &HashSet<&[u8]>,
+) -> bool
+    ensures { result ≡ refuses opened (has seen.now) (has known.now) line.now }
+{
+    match line {
+        None => true,
+        Some(statement) => {
+            is_early(statement, opened) | is_again(statement, seen) | is_unknown(statement, known)
+        }
+    }
+}
+
+/// The place of the first line that is refused, where `known` has the names that the lines
 /// define.
 pub fn first_refused(
     alloc: Global,
-    lines: &[Option<Form>],
-    defined: &HashSet<&[u8]>,
+    lines: &[Option<Statement>],
+    known: &HashSet<&[u8]>,
 ) -> Result<Option<usize>, AllocError>
-    requires { (q : List ℕ) → has defined.now q ≡ list_any (defines q) lines.now }
+    requires { (q : List ℕ) → has known.now q ≡ list_any (is_some_and (defines q)) lines.now }
     ensures { IfOk result (λ first. MatchOption first
         ((k : ℕ) → k < length lines.now → refuses_at lines.now k ≡ false)
         (λ at. (at < length lines.now) × (refuses_at lines.now at ≡ true)
@@ -119,7 +160,7 @@ pub fn first_refused(
     let mut seen = HashSet::new(alloc);
     for at in 0..lines.len() {
         let line = &lines[at];
-        if is_refused(line, opened, &seen, defined) {
+        if is_refused(line, opened, &seen, known) {
             return Ok(Some(at));
         }
         opened |= opens(line);

@@ -11,7 +11,6 @@ mod assembler;
 mod build;
 mod bytes;
 mod check;
-mod form;
 mod line;
 mod lines;
 mod names;

@@ -2,16 +2,17 @@
 ghost use Rattle.std.specs.Prelude.{◌≡◌, List, [], ◌∷◌, ℕ, IfOk, MatchOption};
 ghost use Rattle.rv_isa.specs.Text as text;
 ghost use Rattle.rv_isa.specs.Text.{instruction_line};
-ghost use Rattle.asm_read.specs.Forms.{IsLi, IsMv, IsRead, IsSymbol, Says, form_line};
+ghost use Rattle.rv_isa.specs.Statements.{statement_line};
+ghost use Rattle.rv_isa.specs.Symbol.{IsSymbol};
+ghost use Rattle.asm_read.specs.Statements.{IsLi, IsMv, IsRead, Says};
 ghost use Rattle.asm_read.specs.Names.{IsAbsent};
 ghost use Rattle.asm_read.specs.Readings.{Reads};
 
 use crate::bytes::{after, before, cut_at};
-use crate::form::Form;
 use crate::number::read_immediate;
 use crate::register::read_register;
 use crate::symbol::read_symbol;
-use rv_isa::{Inst, SymName};
+use rv_isa::{Inst, Statement, SymName};
 use std::alloc::{AllocError, Global};
 
 /// Two operands, separated by a comma and a blank. The first has no comma in it.
@@ -90,7 +91,7 @@ fn read_code(line: &[u8]) -> Option<Inst>
 
 /// The symbol of a line `.globl symbol`.
 fn read_global(alloc: Global, line: &[u8]) -> Result<Option<SymName>, AllocError>
-    ensures { IfOk result (λ read. Reads (λ n. IsSymbol n × (line.now ≡ form_line (Form.Global n))) read) }
+    ensures { IfOk result (λ read. Reads (λ n. IsSymbol n × (line.now ≡ statement_line (Statement.Global n))) read) }
 {
     match after(line, b"\t.globl\t") {
         Some(operand) => read_symbol(alloc, operand),
@@ -100,7 +101,7 @@ fn read_global(alloc: Global, line: &[u8]) -> Result<Option<SymName>, AllocError
 
 /// The symbol of a line `symbol:`.
 fn read_define(alloc: Global, line: &[u8]) -> Result<Option<SymName>, AllocError>
-    ensures { IfOk result (λ read. Reads (λ n. IsSymbol n × (line.now ≡ form_line (Form.Define n))) read) }
+    ensures { IfOk result (λ read. Reads (λ n. IsSymbol n × (line.now ≡ statement_line (Statement.Define n))) read) }
 {
     match before(line, b":") {
         Some(name) => read_symbol(alloc, name),
@@ -109,23 +110,23 @@ fn read_define(alloc: Global, line: &[u8]) -> Result<Option<SymName>, AllocError
 }
 
 /// What a line says, or `None` where it is outside the grammar.
-pub fn read_line(alloc: Global, line: &[u8]) -> Result<Option<Form>, AllocError>
+pub fn read_line(alloc: Global, line: &[u8]) -> Result<Option<Statement>, AllocError>
     ensures { IfOk result (λ read. Reads (Says line.now) read) }
 {
     if line == b"\t.text".as_slice() {
-        return Ok(Some(Form::Text));
+        return Ok(Some(Statement::Text));
     }
     if line == b"\t.p2align\t2".as_slice() {
-        return Ok(Some(Form::Align));
+        return Ok(Some(Statement::Align));
     }
     if let Some(inst) = read_code(line) {
-        return Ok(Some(Form::Code(inst)));
+        return Ok(Some(Statement::Code(inst)));
     }
     if let Some(name) = read_global(alloc, line)? {
-        return Ok(Some(Form::Global(name)));
+        return Ok(Some(Statement::Global(name)));
     }
     if let Some(name) = read_define(alloc, line)? {
-        return Ok(Some(Form::Define(name)));
+        return Ok(Some(Statement::Define(name)));
     }
     Ok(None)
 }

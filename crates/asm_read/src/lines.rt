@@ -3,15 +3,15 @@ ghost use Rattle.std.specs.Prelude.{IfOk};
 ghost use Rattle.asm_read.specs.Checks.{AreLinesOf};
 
 use crate::bytes::cut_at;
-use crate::form::Form;
 use crate::line::read_line;
+use rv_isa::Statement;
 use std::alloc::{AllocError, Global};
 
 /// What was read from the lines of a text.
 #[derive(Drop)]
 pub struct Lines {
     /// What each line says, or `None` where it is outside the grammar.
-    pub readings: Vec<Option<Form>>,
+    pub readings: Vec<Option<Statement>>,
     /// Whether nothing stands after the last line feed.
     pub whole: bool,
 }

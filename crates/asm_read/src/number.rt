@@ -4,7 +4,7 @@ ghost use Rattle.std.specs.Fmt.{signed_decimal};
 ghost use Rattle.std.specs.List.{list_all};
 ghost use Rattle.rv_isa.specs.Encoding.{IsSigned12};
 ghost use Rattle.rv_isa.specs.Symbol.{is_digit};
-ghost use Rattle.asm_read.specs.Forms as form;
+ghost use Rattle.rv_isa.specs.Symbol as symbol;
 ghost use Rattle.asm_read.specs.Readings.{Reads};
 
 use itoa::Buffer;
@@ -19,7 +19,7 @@ fn are_digits(bytes: &[u8]) -> bool
 
 /// Whether the bytes are a number in its one spelling: `0`, or digits that do not begin with 0.
 pub fn is_number(bytes: &[u8]) -> bool
-    ensures { result ≡ form.is_number bytes.now }
+    ensures { result ≡ symbol.is_number bytes.now }
 {
     match bytes {
         [] => false,

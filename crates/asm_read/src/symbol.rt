@@ -2,9 +2,9 @@
 ghost use Rattle.std.specs.Prelude.{◌≡◌, ◌<◌, ◌++◌, ℕ, List, [], ◌∷◌, ◌↔◌, false, IfOk, IsTrue, MatchOption};
 ghost use Rattle.std.specs.List.{flat_map, list_all};
 ghost use Rattle.rv_isa.specs.Symbol as symbol;
-ghost use Rattle.asm_read.specs.Forms.{IsLabel, IsSymbol};
+ghost use Rattle.rv_isa.specs.Symbol.{AreBytes, IsLabel, IsSymbol};
 ghost use Rattle.asm_read.specs.Readings.{Reads};
-ghost use Rattle.asm_read.specs.Names.{AreBytes, is_printable, octal};
+ghost use Rattle.asm_read.specs.Names.{is_printable, octal};
 
 use crate::bytes::{after, cut_at};
 use crate::number::is_number;

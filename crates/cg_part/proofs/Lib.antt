@@ -1,12 +1,8 @@
 pub mod AllowedLemmas
-pub mod AssemblingForms
 pub mod AssemblingLemmas
-pub mod AssemblingNames
-pub mod AssemblingObject
-pub mod AssemblingPassed
-pub mod AssemblingText
 pub mod CodeLemmas
 pub mod InstructionLemmas
+pub mod Items
 pub mod LinkingImage
 pub mod LinkingLists
 pub mod LinkingMain
@@ -19,13 +15,9 @@ pub mod NameLemmas
 pub mod Objects
 pub mod PlaceLemmas
 pub mod Programs
-pub mod QuietLines
-pub mod ResolvingLemmas
 pub mod RunningCode
 pub mod RunningMain
 pub mod RunningProgram
 pub mod RunningSteps
 pub mod RunningValues
 pub mod RunningWords
-pub mod Splitting
-pub mod TextLemmas

@@ -3,7 +3,9 @@ use Rattle.std.proofs.Common.{◌≡◌, ◌∷◌, [], ℕ, List, Ok, Err, OnOk
 use Rattle.std.specs.Prelude.{◌≢◌}
 use Rattle.std.specs.declared.result.Result.{Result}
 use Rattle.std.specs.List.{AllZip}
+use Rattle.asm_read.specs.Assembly.{Assembles}
 use Rattle.asm_read.specs.declared.object.Object.{Object}
+use Rattle.asm_read.proofs.AssemblyLemmas.{assembled_once}
 use Rattle.obj_link.specs.Cause.{IsLinkable, IsUnlinked}
 use Rattle.obj_link.specs.Image.{linked_image}
 use Rattle.obj_link.specs.Runtime.{runtime}
@@ -11,8 +13,7 @@ use Rattle.obj_link.specs.declared.image.Image.{Image}
 use Rattle.obj_link.specs.declared.refusal.Unlinked.{Unlinked}
 use Rattle.obj_link.specs.declared.refusal.Unlinked.TheVariants.{NoMemory}
 use Rattle.obj_link.proofs.Causes.{linkable_excludes, one_cause}
-use Rattle.cg_part.specs.Linking.{AreUnlinked, Assembles, IsImageOf}
-use Rattle.cg_part.proofs.AssemblingLemmas.{assembled_once}
+use Rattle.cg_part.specs.Linking.{AreUnlinked, IsImageOf}
 
 pub objects_once : (texts : List (List ℕ)) (one other : List Object) → AllZip Assembles texts one → AllZip Assembles texts other → one ≡ other
 objects_once [] [] [] first second = refl

@@ -2,10 +2,13 @@
 use Rattle.std.proofs.Common.{◌≡◌, ◌++◌, ◌∷◌, [], Bool, true, cond, List, zero, suc, filter, map, Contains, ap, arith, refl, subst, sym, ◌∙◌}
 use Rattle.std.specs.List.{AllByRecursion as ByRecursion}
 use Rattle.std.proofs.lemmas.Grind.{flat_map-append}
+use Rattle.std.proofs.lemmas.List.{map-append}
 use Rattle.std.proofs.lemmas.List.Elements.{Contains-append_right, filter-append}
 use Rattle.ir_syntax.specs.declared.function.Function.{Function}
 use Rattle.ir_syntax.specs.declared.module.Module.{Module}
+use Rattle.asm_print.specs.Items.{Item, items_code}
 use Rattle.cg_part.specs.Code.{function_code}
+use Rattle.cg_part.specs.Text.{item_of}
 use Rattle.cg_built.specs.Definitions.{defined_functions, has_body}
 use Rattle.cg_part.specs.Meaning.{IsMain}
 use Rattle.cg_part.proofs.Mains.{main_has_body}
@@ -45,4 +48,5 @@ at_middle P g (y ∷ front) back x all = at_middle P g front back x all.1
 
 pub code_around : (front back : List Function) (f : Function) →
     part_code (front ++ f ∷ back) ≡ part_code front ++ (function_code f ++ part_code back)
-code_around front back f = flat_map-append function_code front (f ∷ back)
+code_around front back f =
+    ap items_code (map-append item_of front (f ∷ back)) ∙ flat_map-append (λ (item : Item). item.code) (map item_of front) (map item_of (f ∷ back))

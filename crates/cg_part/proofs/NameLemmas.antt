@@ -1,12 +1,14 @@
 -- The names of definitions: they stand without quotes, and are no label's and none of the runtime's.
-use Rattle.std.proofs.Common.{◌≡◌, ◌++◌, ◌∷◌, [], ℕ, List, Bool, true, false, cond, not, ◌&&◌, ◌||◌, refl, sym, subst, codes, drop}
+use Rattle.std.proofs.Common.{◌≡◌, ◌<◌, ◌++◌, ◌∷◌, [], ℕ, List, true, false, not, ◌&&◌, ◌||◌, All, sym, subst, codes, arith}
 use Rattle.std.specs.Prelude.{◌==◌, bytes_eq}
 use Rattle.std.specs.List.{list_all}
-use Rattle.std.proofs.lemmas.Bool.{and_from, and_parts, both_ways, false_from_ne_true, or_parts}
-use Rattle.asm_read.specs.Forms.{IsLabel, is_number}
+use Rattle.std.proofs.lemmas.Bool.{and_parts, both_ways, or_parts}
+use Rattle.std.proofs.lemmas.Bool.Decides.{nat_tests}
+use Rattle.std.proofs.lemmas.List.Elements.{All-cons, All-nil}
 use Rattle.ir_check.specs.Reserved.{begins_digit, begins_with, is_label_name, is_reserved}
-use Rattle.rv_isa.specs.Symbol.{is_digit}
-use Rattle.cg_part.specs.Resolving.{leading, is_label, is_number_pair}
+use Rattle.rv_isa.specs.Symbol.{IsLabel, IsSymbol, is_digit, is_number, is_symbol_byte}
+use Rattle.cg_built.specs.Built.{is_built_name}
+use Rattle.cg_built.proofs.BareNames.{bare_bytes, name_is_bare, name_not_reserved}
 
 -- a name that is not reserved differs from each that is
 pub free_differs : (name other : List ℕ) → is_reserved name ≡ false → is_reserved other ≡ true → name ≡ other → ⊥
@@ -23,24 +25,21 @@ number_begins (d ∷ []) rest number = number
 number_begins (d ∷ e ∷ more) rest number =
     (and_parts (is_digit d) (not (d == 48)) (and_parts (is_digit d && not (d == 48)) (list_all is_digit (e ∷ more)) number).0).0
 
--- so the assembler reads it as a symbol,
-pub no_label_read : (name : List ℕ) → is_reserved name ≡ false → IsLabel name → ⊥
-no_label_read name free (f, b, is, number, last) =
+-- so it is no label,
+no_label : (name : List ℕ) → is_reserved name ≡ false → IsLabel name → ⊥
+no_label name free (f, b, is, number, last) =
     both_ways (is_label_name name) (free_of_labels name free)
     (subst (λ n. is_label_name n ≡ true) (sym is) (number_begins f (95 ∷ b) number))
 
-digits_begin : (bytes : List ℕ) → is_number (leading is_digit bytes) ≡ true → begins_digit bytes ≡ true
-digits_begin [] number = number
-digits_begin (b ∷ bytes) number = by_test (is_digit b) number
-  where
-    by_test : (t : Bool) → is_number (cond t (b ∷ leading is_digit bytes) []) ≡ true → t ≡ true
-    by_test true number = refl
-    by_test false number = number
+-- and the assembler reads it as a symbol
+symbol_byte_small : (b : ℕ) → is_symbol_byte b ≡ true → b < 256
+symbol_byte_small b symbol = grind (arith, nat_tests, symbol)
 
--- and a line that begins with it defines a symbol
-pub no_label_in_line : (name : List ℕ) → is_reserved name ≡ false → is_label name ≡ false
-no_label_in_line name free = false_from_ne_true (is_label name) (λ label.
-    (let parts = and_parts (begins_with (codes ".LBB") name) (is_number_pair (drop 4 name)) label in
-    let digits : is_number (leading is_digit (drop 4 name)) ≡ true = (and_parts _ _ (and_parts _ _ parts.1).0).0 in
-    both_ways (is_label_name name) (free_of_labels name free)
-    (and_from (begins_with (codes ".LBB") name) (begins_digit (drop 4 name)) parts.0 (digits_begin (drop 4 name) digits))))
+small_bytes : (bytes : List ℕ) → list_all is_symbol_byte bytes ≡ true → All (λ b. b < 256) bytes
+small_bytes [] all = All-nil (λ b. b < 256)
+small_bytes (b ∷ bytes) all =
+    let parts = and_parts (is_symbol_byte b) (list_all is_symbol_byte bytes) all in
+    All-cons (λ x. x < 256) b bytes (symbol_byte_small b parts.0) (small_bytes bytes parts.1)
+
+pub name_is_symbol : (name : List ℕ) → is_built_name name ≡ true → IsSymbol name
+name_is_symbol name built = (small_bytes name (bare_bytes name (name_is_bare name built)), no_label name (name_not_reserved name built))

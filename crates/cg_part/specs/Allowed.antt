@@ -1,6 +1,7 @@
 -- What a linked image may show, by the meaning of the module that it was compiled from.
 use Rattle.std.specs.Prelude.{◌≡◌, ◌≢◌, ◌+◌, ◌/◌, ◌≤◌, ◌++◌, ◌∷◌, [], ℕ, List}
 use Rattle.std.specs.List.{AllZip}
+use Rattle.asm_read.specs.Assembly.{Assembles}
 use Rattle.asm_read.specs.declared.object.Object.{Object}
 use Rattle.ir_syntax.specs.declared.function.Function.{Function}
 use Rattle.ir_syntax.specs.declared.module.Module.{Module}
@@ -15,7 +16,6 @@ use Rattle.rv_mach.specs.declared.stop.Stop.{Stop}
 use Rattle.rv_mach.specs.declared.stop.Stop.TheVariants.{Exited, Trapped, StackOut, Running}
 use Rattle.rv_mach.specs.declared.stop.TrapKind.{TrapKind}
 use Rattle.rv_mach.specs.declared.stop.TrapKind.TheVariants as trap
-use Rattle.cg_part.specs.Linking.{Assembles}
 use Rattle.cg_part.specs.Meaning.{Config, End, going, ended, trapped, undefined, IsMain, IsRun}
 
 abbrev pub IsPrefix : List ℕ → List ℕ → Type 0

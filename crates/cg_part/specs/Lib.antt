@@ -2,5 +2,4 @@ pub mod Allowed
 pub mod Code
 pub mod Linking
 pub mod Meaning
-pub mod Resolving
 pub mod Text

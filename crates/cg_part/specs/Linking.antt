@@ -1,18 +1,13 @@
 -- What texts of assembly are linked to.
 use Rattle.std.specs.Prelude.{◌≡◌, ◌∷◌, ℕ, List}
 use Rattle.std.specs.List.{AllZip}
-use Rattle.asm_read.specs.Assembly.{IsAssembly, IsObjectOf}
-use Rattle.asm_read.specs.declared.form.Form.{Form}
+use Rattle.asm_read.specs.Assembly.{Assembles}
 use Rattle.asm_read.specs.declared.object.Object.{Object}
 use Rattle.obj_link.specs.Cause.{IsLinkable, IsUnlinked}
 use Rattle.obj_link.specs.Image.{linked_image}
 use Rattle.obj_link.specs.Runtime.{runtime}
 use Rattle.obj_link.specs.declared.image.Image.{Image}
 use Rattle.obj_link.specs.declared.refusal.Unlinked.{Unlinked}
-
--- a text assembles to an object
-abbrev pub Assembles : List ℕ → Object → Type 0
-Assembles text object = (forms : List Form) × IsAssembly text forms × IsObjectOf forms object
 
 -- the texts assemble to objects that can be linked behind the runtime, and this is their image
 pub record IsImageOf (texts : List (List ℕ)) (image : Image) : Type 0 where

@@ -1,5 +1,6 @@
 //! What holds of each text, and of each module's.
 ghost use Rattle.std.specs.Prelude.{◌≡◌, ◌≢◌, ◌∷◌, [], ℕ, List};
+ghost use Rattle.asm_read.specs.Assembly.{Assembles};
 ghost use Rattle.asm_read.specs.declared.object.Object.{Object};
 ghost use Rattle.cg_built.specs.Unbuilt.{IsBuilt};
 ghost use Rattle.ir_syntax.specs.declared.function.Function.{Function};
@@ -8,7 +9,7 @@ ghost use Rattle.obj_link.specs.declared.image.Image.{Image};
 ghost use Rattle.obj_link.specs.declared.refusal.Unlinked.{Unlinked};
 ghost use Rattle.obj_link.specs.declared.refusal.Unlinked.TheVariants.{NoMemory};
 ghost use Rattle.cg_part.specs.Allowed.{Allowed, RunsAllowed};
-ghost use Rattle.cg_part.specs.Linking.{AreUnlinked, Assembles, IsImageOf};
+ghost use Rattle.cg_part.specs.Linking.{AreUnlinked, IsImageOf};
 ghost use Rattle.cg_part.specs.Meaning.{IsMain};
 ghost use Rattle.cg_part.specs.Text.{part_text};
 

@@ -3,7 +3,6 @@
 
 mod code;
 mod laws;
-mod print;
 mod program;
 mod text;
 

@@ -1,7 +1,8 @@
 //! The linked image of a module.
 ghost use Rattle.std.specs.Prelude.{◌∷◌, [], IfOk, IfErr};
+ghost use Rattle.asm_read.specs.Assembly.{Assembles};
 ghost use Rattle.cg_built.specs.Unbuilt.{IsBuilt};
-ghost use Rattle.cg_part.specs.Linking.{AreUnlinked, Assembles, IsImageOf};
+ghost use Rattle.cg_part.specs.Linking.{AreUnlinked, IsImageOf};
 ghost use Rattle.cg_part.specs.Text.{part_text};
 
 use crate::text::text_of;

@@ -13,7 +13,7 @@ use Rattle.cg_built.proofs.UnbuiltLemmas.{is_program}
 use Rattle.cg_part.specs.Text.{part_text}
 use Rattle.cg_part.proofs.AllowedLemmas.{image_allowed, program_allowed}
 use Rattle.cg_part.proofs.LinkingImage.{image_excludes}
-use Rattle.cg_part.proofs.ResolvingLemmas.{text_resolves}
+use Rattle.cg_part.proofs.AssemblingLemmas.{part_resolves}
 use Rattle.ir_read.proofs.OneAnswer.{reads_excludes, reads_unique}
 use Rattle.ir_syntax.specs.declared.function.Function.{Function}
 use Rattle.ir_syntax.specs.declared.module.Module.{Module}
@@ -155,7 +155,7 @@ module _ (words : List (List ℕ)) (src : SourceChange) (out err : SinkChange) w
           compiled = m;
           takes = takes;
           wrote = results.appended;
-          resolves = text_resolves m program;
+          resolves = part_resolves m program;
           allowed = program_allowed m program;
         }
     compiled_by (runs other image) compiling (calm, is_other, running, takes) is results =

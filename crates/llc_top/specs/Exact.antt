@@ -1,10 +1,10 @@
 -- What an answer says of a text that the source tells, and of what was written.
 use Rattle.std.specs.Prelude.{◌≡◌, ◌≢◌, ℕ, true, Option, Some, List, [], ◌∷◌}
 use Rattle.std.specs.Io.KnownBytes.{Appends}
+use Rattle.asm_print.specs.Resolving.{Resolves}
 use Rattle.cg_part.specs.Allowed.{RunsAllowed, Allowed}
 use Rattle.cg_part.specs.Linking.{IsImageOf}
-use Rattle.cg_part.specs.Resolving.{Resolves}
-use Rattle.cg_part.specs.Text.{output_of, part_text}
+use Rattle.cg_part.specs.Text.{declared_symbols, defined_symbols, output_of, part_text}
 use Rattle.ir_syntax.specs.declared.module.Module.{Module}
 use Rattle.ir_syntax.specs.declared.refusal.Refusal.{Refusal}
 use Rattle.llc_words.specs.Commands.{Command, command_of}
@@ -37,7 +37,7 @@ pub record Compiled (left left' out out' : Option (List ℕ)) : Type 0 where
   pub compiled : Module
   pub takes : TakesModule left left' compiled
   pub wrote : Appends out out' (output_of compiled)
-  pub resolves : Resolves compiled (part_text compiled ∷ [])
+  pub resolves : Resolves (defined_symbols compiled) (declared_symbols compiled) (part_text compiled ∷ [])
   pub allowed : RunsAllowed compiled (part_text compiled ∷ [])
 
 -- The source's module was run with the input and the steps of the command: its text links to an image, what the

@@ -4,5 +4,6 @@ pub mod Instructions
 pub mod Lines
 pub mod Registers
 pub mod Relocation
+pub mod Statements
 pub mod Symbol
 pub mod Text

@@ -1,6 +1,6 @@
--- How a symbol is spelled in assembly.
-use Rattle.std.specs.Prelude.{◌+◌, ◌/◌, ◌%◌, ◌&&◌, ◌||◌, ◌==◌, ℕ, Bool, false, not, nat_le, List, [], ◌∷◌, ◌++◌, if◌then◌else◌}
-use Rattle.std.specs.List.{flat_map, list_all}
+-- Names of symbols, and how they are spelled in assembly.
+use Rattle.std.specs.Prelude.{◌≡◌, ◌<◌, ◌+◌, ◌/◌, ◌%◌, ◌&&◌, ◌||◌, ◌==◌, ℕ, Bool, false, not, nat_le, List, [], ◌∷◌, ◌++◌, codes, IsTrue, if◌then◌else◌}
+use Rattle.std.specs.List.{All, flat_map, list_all}
 
 abbrev pub is_digit : ℕ → Bool
 is_digit b = nat_le 48 b && nat_le b 57
@@ -28,3 +28,21 @@ escaped b =
 -- a name as the assembly writes it
 abbrev pub spelled : List ℕ → List ℕ
 spelled name = if is_bare name then name else 34 ∷ (flat_map escaped name ++ 34 ∷ [])
+
+-- bytes from 0 to 255
+abbrev pub AreBytes : List ℕ → Type 0
+AreBytes bytes = All (λ b. b < 256) bytes
+
+-- a number in its one spelling: `0`, or digits that do not begin with 0
+abbrev pub is_number : List ℕ → Bool
+is_number [] = false
+is_number (digit ∷ []) = is_digit digit
+is_number (first ∷ second ∷ more) = is_digit first && not (first == 48) && list_all is_digit (second ∷ more)
+
+-- `.LBBf_b` for two numbers: a label within a function, and no symbol
+abbrev pub IsLabel : List ℕ → Type 0
+IsLabel name = (f b : List ℕ) × (name ≡ codes ".LBB" ++ (f ++ 95 ∷ b)) × IsTrue (is_number f) × IsTrue (is_number b)
+
+-- a name of a symbol: any bytes, unless they are a label
+abbrev pub IsSymbol : List ℕ → Type 0
+IsSymbol name = AreBytes name × ¬ (IsLabel name)

@@ -1,4 +1,4 @@
-//! Instructions of RV64IM: their fields, their 32-bit words, and their spelling in assembly.
+//! Instructions of RV64IM: their fields and their 32-bit words; and the statements of assembly, with their spelling.
 //!
 //! Sections are of the RISC-V Instruction Set Manual, Volume I: Unprivileged Architecture.
 #![tactic(auto)]
@@ -6,9 +6,11 @@
 mod encoding;
 mod inst;
 mod register;
+mod statement;
 mod symbol;
 
 pub use encoding::{decode, decoding_is_undone, encode, encoding_is_undone, words_fit};
 pub use inst::{Inst, Line, Op};
 pub use register::{A0, A1, A7, RA, T0, T1, ZERO, register_name};
+pub use statement::Statement;
 pub use symbol::SymName;

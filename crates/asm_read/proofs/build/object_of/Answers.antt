@@ -2,8 +2,8 @@ use Rattle.std.proofs.Common.{List, Option, ap, subst, sym, ◌∙◌}
 use Rattle.std.proofs.lemmas.List.{take_all}
 use Rattle.rv_isa.specs.Relocation.{AreLines}
 use Rattle.asm_read.specs.Assembly.{words}
-use Rattle.asm_read.specs.Checks.{forms_in}
-use Rattle.asm_read.specs.declared.form.Form.{Form}
+use Rattle.asm_read.specs.Checks.{statements_in}
+use Rattle.rv_isa.specs.declared.statement.Statement.{Statement}
 use Rattle.asm_read.proofs.BuildLemmas.{words_are_lines}
 use Rattle.std.proofs.Common.{◌≡◌, length, arith}
 use Rattle.asm_read.specs.Checks.{has}
@@ -24,5 +24,5 @@ loop-line-preserved c =
 pub from_vec-requires : goal.from_vec-requires
 from_vec-requires c =
     let lines = c.args.lines.now in
-    let told = c.loop-line.invariant.words ∙ ap (λ (xs : List (Option Form)). words (forms_in xs)) (take_all c.loop-line.line-index lines c.loop-line-test.false) in
-    subst AreLines (sym told) (words_are_lines (forms_in lines) c.requires.forms)
+    let told = c.loop-line.invariant.words ∙ ap (λ (xs : List (Option Statement)). words (statements_in xs)) (take_all c.loop-line.line-index lines c.loop-line-test.false) in
+    subst AreLines (sym told) (words_are_lines (statements_in lines) c.requires.grammar)

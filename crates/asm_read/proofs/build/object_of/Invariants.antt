@@ -1,10 +1,11 @@
-use Rattle.std.proofs.Common.{◌≡◌, [], take}
-use Rattle.asm_read.specs.Assembly.{symbols_after, words}
-use Rattle.asm_read.specs.Checks.{forms_in}
+use Rattle.std.proofs.Common.{◌≡◌, take}
+use Rattle.std.specs.List.{list_any}
+use Rattle.asm_read.specs.Assembly.{exports, symbols_after, words}
+use Rattle.asm_read.specs.Checks.{statements_in}
 use Rattle.asm_read.proofs.build.object_of.Given as goal
 
 abbrev pub invariant-loop-line : goal.invariant-loop-line
 invariant-loop-line l = record {
-  words : l.words.items ≡ words (forms_in (take l.line-index l.lines));
-  symbols : l.symbols.items ≡ symbols_after (forms_in l.lines) [] (forms_in (take l.line-index l.lines));
+  words : l.words.items ≡ words (statements_in (take l.line-index l.lines));
+  symbols : l.symbols.items ≡ symbols_after (λ q. list_any (exports q) (statements_in l.lines)) 0 (statements_in (take l.line-index l.lines));
 }

@@ -1,8 +1,7 @@
 use Rattle.std.proofs.Common.{◌≡◌, ◌<◌, ◌++◌, ℕ, List, [], ◌∷◌, subst, sym, rules}
 use Rattle.std.specs.List.{flat_map}
 use Rattle.std.proofs.lemmas.List.Elements.{All-push}
-use Rattle.rv_isa.specs.Symbol.{escaped}
-use Rattle.asm_read.specs.Names.{AreBytes}
+use Rattle.rv_isa.specs.Symbol.{AreBytes, escaped}
 use Rattle.asm_read.proofs.SymbolLemmas.{GoesOn, goes_on_more, goes_no_further, told_more}
 use Rattle.asm_read.proofs.symbol.read_escaped.Goals as goal
 

@@ -1,7 +1,6 @@
 use Rattle.std.proofs.Common.{◌≡◌, ◌++◌, length}
 use Rattle.std.specs.List.{flat_map}
-use Rattle.rv_isa.specs.Symbol.{escaped}
-use Rattle.asm_read.specs.Names.{AreBytes}
+use Rattle.rv_isa.specs.Symbol.{AreBytes, escaped}
 use Rattle.asm_read.proofs.SymbolLemmas.{GoesOn}
 use Rattle.asm_read.proofs.symbol.read_escaped.Given as goal
 

@@ -1,6 +1,6 @@
 use Rattle.std.proofs.Common.{refl, sym, subst, ◌∙◌}
-use Rattle.asm_read.specs.Forms.{IsLabel}
 use Rattle.asm_read.proofs.SymbolLemmas.{spelled_once}
+use Rattle.rv_isa.specs.Symbol.{IsLabel}
 use Rattle.asm_read.proofs.symbol.read_symbol.Goals as goal
 
 pub returns-then-is_label : goal.returns-then-is_label

@@ -1,4 +1,4 @@
-use Rattle.cg_part.proofs.AssemblingLemmas.{assembled_once}
+use Rattle.asm_read.proofs.AssemblyLemmas.{assembled_once}
 use Rattle.cg_part.proofs.LinkingImage.{image_excludes, image_once, unlinked_once}
 use Rattle.cg_part.proofs.laws.texts_have_one_image.Goals as goal
 

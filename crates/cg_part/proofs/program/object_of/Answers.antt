@@ -1,8 +1,7 @@
 use Rattle.std.proofs.Common.{◌≡◌, ◌∙◌, List, ℕ, subst}
-use Rattle.asm_read.specs.Assembly.{IsRefusal}
+use Rattle.asm_read.specs.Assembly.{Assembles, IsRefusal}
 use Rattle.asm_read.specs.declared.refusal.AsmRefusal.TheVariants.{Line as RefusedLine}
 use Rattle.cg_built.proofs.UnbuiltLemmas.{is_program}
-use Rattle.cg_part.specs.Linking.{Assembles}
 use Rattle.cg_part.specs.Text.{part_text}
 use Rattle.cg_part.proofs.AssemblingLemmas.{part_not_refused}
 use Rattle.cg_part.proofs.program.object_of.Goals as goal

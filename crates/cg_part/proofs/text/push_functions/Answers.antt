@@ -4,7 +4,7 @@ use Rattle.ir_syntax.specs.declared.function.Function.{Function}
 use Rattle.cg_built.specs.Built.{IsBuiltFunction}
 use Rattle.cg_built.specs.Definitions.{has_body}
 use Rattle.cg_part.proofs.LinkingLists.{among_passing}
-use Rattle.cg_part.proofs.TextLemmas.{part_more}
+use Rattle.cg_part.proofs.Items.{items_more}
 use Rattle.cg_part.proofs.text.push_functions.Goals as goal
 
 pub push_definition-requires : goal.push_definition-requires
@@ -20,5 +20,5 @@ push_definition-requires c = λ defined.
 pub loop-function-preserved : goal.loop-function-preserved
 loop-function-preserved c =
     let inside : c.loop-function.function-index < length c.args.functions.now = omega arith in
-    part_more _ _ _ c.args.functions.now c.loop-function.function-index _ inside c.loop-function.invariant c.function-item.is
+    items_more _ _ _ c.args.functions.now c.loop-function.function-index _ inside c.loop-function.invariant c.function-item.is
     c.in_ok-push_definition.ensures

@@ -1,8 +1,8 @@
 use Rattle.std.proofs.Common.{◌≡◌, ◌∷◌, [], ℕ, List, rules, sym, subst}
+use Rattle.asm_print.specs.Resolving.{Resolves}
 use Rattle.cg_built.proofs.UnbuiltLemmas.{is_program}
-use Rattle.cg_part.specs.Resolving.{Resolves}
-use Rattle.cg_part.specs.Text.{part_text}
-use Rattle.cg_part.proofs.ResolvingLemmas.{text_resolves}
+use Rattle.cg_part.specs.Text.{declared_symbols, defined_symbols, part_text}
+use Rattle.cg_part.proofs.AssemblingLemmas.{part_resolves}
 use Rattle.cg_part.proofs.text.text_of.Goals as goal
 
 pub push_functions-requires : goal.push_functions-requires
@@ -12,4 +12,8 @@ pub returns : goal.returns
 unfolding part_text
 returns c =
     let is : c.push_functions.new.out.items ≡ part_text c.args.m.now = search rules in
-    record { text = is; resolves = subst (λ (text : List ℕ). Resolves c.args.m.now (text ∷ [])) (sym is) (text_resolves c.args.m.now (is_program c.args.m.now c.requires)) }
+    record {
+      text = is;
+      resolves = subst (λ (text : List ℕ). Resolves (defined_symbols c.args.m.now) (declared_symbols c.args.m.now) (text ∷ [])) (sym is)
+          (part_resolves c.args.m.now (is_program c.args.m.now c.requires));
+    }

@@ -1,0 +1,10 @@
+pub mod Assembling
+pub mod Exports
+pub mod Labels
+pub mod Lines
+pub mod Objects
+pub mod Ordering
+pub mod Projections
+pub mod Resolving
+pub mod Symbols
+pub mod Written

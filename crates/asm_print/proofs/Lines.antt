@@ -1,0 +1,209 @@
+-- What the line of a statement defines, exports and needs.
+use Rattle.std.proofs.Common.{◌≡◌, ◌+◌, ◌/◌, ◌%◌, ◌&&◌, ◌++◌, ◌∷◌, [], ℕ, List, Bool, true, false, not, cond, Option, Some, None, nat_eq, codes, drop, length, inl, inr, refl, ap, sym, subst, ◌∙◌, arith, append_assoc}
+use Rattle.std.specs.Prelude.{◌==◌, bytes_eq, nat_le}
+use Rattle.std.specs.List.{flat_map, list_all, starts_with}
+use Rattle.std.proofs.Math.Seq.{drop-append_seam}
+use Rattle.std.proofs.lemmas.Bool.{and_left, and_parts, both_ways, ne_eqb, not-true}
+use Rattle.std.proofs.lemmas.List.{append-nil}
+use Rattle.rv_isa.specs.Statements.{statement_line}
+use Rattle.rv_isa.specs.Symbol.{escaped, is_bare, is_digit, is_symbol_byte, spelled}
+use Rattle.rv_isa.specs.Text.{instruction_line}
+use Rattle.rv_isa.specs.declared.inst.Inst.{Inst}
+use Rattle.rv_isa.specs.declared.statement.Statement.{Statement}
+use Rattle.rv_isa.specs.declared.statement.Statement.TheVariants.{Text, Global, Align, Define, Code}
+use Rattle.asm_read.specs.Statements.{IsRead, IsStatement, defined, exported}
+use Rattle.asm_read.proofs.CodeLemmas.{are_calm, code_calm, is_calm}
+use Rattle.asm_read.proofs.LineLemmas.{li_line, mv_line}
+use Rattle.asm_read.proofs.SymbolLemmas.{how_spelled}
+use Rattle.asm_print.specs.Symbols.{after_percent, defined_in, exported_in, is_label, leading, needed_in, one_symbol, quoted_prefix, symbol_at}
+use Rattle.asm_print.proofs.Labels.{no_label}
+
+-- A name that stands without quotes.
+
+record IsBareName (b : ℕ) (bytes : List ℕ) : Type 0 where
+  symbol : is_symbol_byte b ≡ true
+  digit : is_digit b ≡ false
+  all : list_all is_symbol_byte (b ∷ bytes) ≡ true
+
+bare_name : (b : ℕ) (bytes : List ℕ) → is_bare (b ∷ bytes) ≡ true → IsBareName b bytes
+bare_name b bytes bare =
+    let parts = and_parts (is_symbol_byte b && not (is_digit b)) (list_all is_symbol_byte bytes) bare in
+    let first = and_parts (is_symbol_byte b) (not (is_digit b)) parts.0 in
+    record {
+      symbol = first.0;
+      digit = not-true (is_digit b) first.1;
+      all = ap (λ t. t && list_all is_symbol_byte bytes) first.0 ∙ parts.1;
+    }
+
+-- a byte that stands in no symbol differs from each that does
+differs : (b c : ℕ) → is_symbol_byte c ≡ false → is_symbol_byte b ≡ true → b ≡ c → ⊥
+differs b c other plain same = both_ways (is_symbol_byte c) other (subst (λ x. is_symbol_byte x ≡ true) same plain)
+
+-- symbol bytes are read up to what follows them
+front_leading : (bytes rest : List ℕ) → list_all is_symbol_byte bytes ≡ true → leading is_symbol_byte rest ≡ [] →
+    leading is_symbol_byte (bytes ++ rest) ≡ bytes
+front_leading [] rest all ends = ends
+front_leading (b ∷ bytes) rest all ends =
+    let parts = and_parts (is_symbol_byte b) (list_all is_symbol_byte bytes) all in
+    ap (λ t. cond t (b ∷ leading is_symbol_byte (bytes ++ rest)) []) parts.0 ∙ ap (λ front. b ∷ front) (front_leading bytes rest parts.1 ends)
+
+bare_read : (name rest : List ℕ) → is_bare name ≡ true → leading is_symbol_byte rest ≡ [] → symbol_at (name ++ rest) ≡ name
+bare_read [] rest bare ends = absurd (cc)
+bare_read (b ∷ bytes) rest bare ends =
+    let first = bare_name b bytes bare in
+    let front : List ℕ = leading is_symbol_byte (b ∷ (bytes ++ rest)) in
+    ap (λ t. cond t (b ∷ quoted_prefix false (bytes ++ rest)) (cond (is_digit b) [] front)) (ne_eqb b 34 (λ e. differs b 34 refl first.symbol e))
+    ∙ ap (λ t. cond t [] front) first.digit
+    ∙ front_leading (b ∷ bytes) rest first.all ends
+
+bare_no_tab : (name rest word : List ℕ) → is_bare name ≡ true → starts_with nat_eq (name ++ rest) (9 ∷ word) ≡ false
+bare_no_tab [] rest word bare = absurd (cc)
+bare_no_tab (b ∷ bytes) rest word bare = and_left _ _ (ne_eqb 9 b (λ e. differs b 9 refl (bare_name b bytes bare).symbol (sym e)))
+
+bare_one : (name : List ℕ) → is_bare name ≡ true → one_symbol name ≡ name ∷ []
+bare_one [] bare = absurd (cc)
+bare_one (b ∷ bytes) bare = refl
+
+-- A name between quotes.
+
+plain_read : (b : ℕ) (rest : List ℕ) → (b == 34) ≡ false → (b == 92) ≡ false → quoted_prefix false (b ∷ rest) ≡ b ∷ quoted_prefix false rest
+plain_read b rest quote escape =
+    ap (λ t. cond t (b ∷ []) (b ∷ quoted_prefix (b == 92) rest)) quote ∙ ap (λ t. b ∷ quoted_prefix t rest) escape
+
+digit_read : (n : ℕ) (rest : List ℕ) → quoted_prefix false ((48 + n % 8) ∷ rest) ≡ (48 + n % 8) ∷ quoted_prefix false rest
+digit_read n rest = plain_read (48 + n % 8) rest (ne_eqb (48 + n % 8) 34 (λ e. omega arith)) (ne_eqb (48 + n % 8) 92 (λ e. omega arith))
+
+-- the bytes that a byte becomes, by the tests of it
+abbrev escaped_by : ℕ → Bool → Bool → Bool → List ℕ
+escaped_by b quote escape shown =
+    cond quote (92 ∷ 34 ∷ []) (cond escape (92 ∷ 92 ∷ []) (cond shown (b ∷ []) (92 ∷ (48 + b / 64) ∷ (48 + b / 8 % 8) ∷ (48 + b % 8) ∷ [])))
+
+escape_read : (b : ℕ) (rest : List ℕ) → quoted_prefix false (escaped b ++ rest) ≡ escaped b ++ quoted_prefix false rest
+escape_read b rest = by_tests (b == 34) (b == 92) (nat_le 32 b && nat_le b 126) refl refl
+  where
+    by_tests : (quote escape shown : Bool) → (b == 34) ≡ quote → (b == 92) ≡ escape →
+        quoted_prefix false (escaped_by b quote escape shown ++ rest) ≡ escaped_by b quote escape shown ++ quoted_prefix false rest
+    by_tests true escape shown is_quote is_escape = refl
+    by_tests false true shown is_quote is_escape = refl
+    by_tests false false true is_quote is_escape = plain_read b rest is_quote is_escape
+    by_tests false false false is_quote is_escape =
+        ap (λ more. 92 ∷ (48 + b / 64) ∷ more)
+        (digit_read (b / 8) ((48 + b % 8) ∷ rest) ∙ ap (λ more. (48 + b / 8 % 8) ∷ more) (digit_read b rest))
+
+escapes_read : (name rest : List ℕ) → quoted_prefix false (flat_map escaped name ++ rest) ≡ flat_map escaped name ++ quoted_prefix false rest
+escapes_read [] rest = refl
+escapes_read (b ∷ name) rest =
+    ap (quoted_prefix false) (append_assoc (escaped b) (flat_map escaped name) rest)
+    ∙ escape_read b (flat_map escaped name ++ rest)
+    ∙ ap (λ more. escaped b ++ more) (escapes_read name rest)
+    ∙ sym (append_assoc (escaped b) (flat_map escaped name) (quoted_prefix false rest))
+
+quoted_read : (name rest : List ℕ) → symbol_at ((34 ∷ (flat_map escaped name ++ 34 ∷ [])) ++ rest) ≡ 34 ∷ (flat_map escaped name ++ 34 ∷ [])
+quoted_read name rest =
+    ap (λ inner. 34 ∷ quoted_prefix false inner) (append_assoc (flat_map escaped name) (34 ∷ []) rest)
+    ∙ ap (λ inner. 34 ∷ inner) (escapes_read name (34 ∷ rest))
+
+-- Any name, as it is spelled.
+
+symbol_read : (name rest : List ℕ) → leading is_symbol_byte rest ≡ [] → symbol_at (spelled name ++ rest) ≡ spelled name
+symbol_read name rest ends = elim (how_spelled (spelled name) name refl) [
+  | inl bare ↦ ap (λ s. symbol_at (s ++ rest)) bare.1 ∙ bare_read name rest bare.0 ends ∙ sym bare.1
+  | inr quoted ↦ ap (λ s. symbol_at (s ++ rest)) quoted.1 ∙ quoted_read name rest ∙ sym quoted.1
+]
+
+no_tab : (name rest word : List ℕ) → starts_with nat_eq (spelled name ++ rest) (9 ∷ word) ≡ false
+no_tab name rest word = elim (how_spelled (spelled name) name refl) [
+  | inl bare ↦ ap (λ s. starts_with nat_eq (s ++ rest) (9 ∷ word)) bare.1 ∙ bare_no_tab name rest word bare.0
+  | inr quoted ↦ ap (λ s. starts_with nat_eq (s ++ rest) (9 ∷ word)) quoted.1
+]
+
+one_spelled : (name : List ℕ) → one_symbol (spelled name) ≡ spelled name ∷ []
+one_spelled name = elim (how_spelled (spelled name) name refl) [
+  | inl bare ↦ ap one_symbol bare.1 ∙ bare_one name bare.0 ∙ ap (λ s. s ∷ []) (sym bare.1)
+  | inr quoted ↦ ap one_symbol quoted.1 ∙ ap (λ s. s ∷ []) (sym quoted.1)
+]
+
+-- The line that defines a name.
+
+definition_defines : (name : List ℕ) → is_label (spelled name) ≡ false → defined_in (spelled name ++ 58 ∷ []) ≡ spelled name ∷ []
+definition_defines name plain =
+    let line : List ℕ = spelled name ++ 58 ∷ [] in
+    let read : List ℕ → List ℕ → List (List ℕ) = λ s after. cond (bytes_eq after (codes ":") && not (is_label s)) (one_symbol s) [] in
+    ap (λ t. cond t (one_symbol (symbol_at (drop 6 line))) (read (symbol_at line) (drop (length (symbol_at line)) line))) (no_tab name (58 ∷ []) (codes ".set\t"))
+    ∙ ap (λ s. read s (drop (length s) line)) (symbol_read name (58 ∷ []) refl)
+    ∙ ap (read (spelled name)) (drop-append_seam (spelled name) (codes ":"))
+    ∙ ap (λ t. cond (not t) (one_symbol (spelled name)) []) plain
+    ∙ one_spelled name
+
+definition_exports : (name : List ℕ) → exported_in (spelled name ++ 58 ∷ []) ≡ []
+definition_exports name =
+    ap (λ t. cond t (one_symbol (symbol_at (drop 8 (spelled name ++ 58 ∷ [])))) []) (no_tab name (58 ∷ []) (codes ".globl\t"))
+
+definition_needs : (name : List ℕ) → needed_in (spelled name ++ 58 ∷ []) ≡ []
+definition_needs name =
+    let line : List ℕ = spelled name ++ 58 ∷ [] in
+    let in_code : Bool → List (List ℕ) = λ t. cond t (after_percent line) [] in
+    let in_lines : Bool → List (List ℕ) = λ t. cond t [] (in_code (starts_with nat_eq line (codes "\t"))) in
+    ap (λ t. cond t (one_symbol (symbol_at (drop 8 line))) (in_lines (starts_with nat_eq line (codes "\t.")))) (no_tab name (58 ∷ []) (codes ".dword\t"))
+    ∙ ap in_lines (no_tab name (58 ∷ []) (codes "."))
+    ∙ ap in_code (no_tab name (58 ∷ []) [])
+
+-- The line that exports one.
+
+export_exports : (name : List ℕ) → one_symbol (symbol_at (spelled name)) ≡ spelled name ∷ []
+export_exports name = ap (λ s. one_symbol (symbol_at s)) (sym (append-nil (spelled name))) ∙ ap one_symbol (symbol_read name [] refl) ∙ one_spelled name
+
+-- Lines of code.
+
+code_defines : (inst : Inst) → IsRead inst → defined_in (instruction_line inst) ≡ []
+code_defines inst (inl h) = ap defined_in (ap instruction_line h.4 ∙ li_line h.0 h.1)
+code_defines inst (inr (inl h)) = ap defined_in (ap instruction_line h.5 ∙ mv_line h.0 h.1 h.3)
+code_defines inst (inr (inr h)) = ap (λ i. defined_in (instruction_line i)) h
+
+code_exports : (inst : Inst) → IsRead inst → exported_in (instruction_line inst) ≡ []
+code_exports inst (inl h) = ap exported_in (ap instruction_line h.4 ∙ li_line h.0 h.1)
+code_exports inst (inr (inl h)) = ap exported_in (ap instruction_line h.5 ∙ mv_line h.0 h.1 h.3)
+code_exports inst (inr (inr h)) = ap (λ i. exported_in (instruction_line i)) h
+
+calm_needs : (bytes : List ℕ) → are_calm bytes ≡ true → after_percent bytes ≡ []
+calm_needs [] calm = refl
+calm_needs (b ∷ bytes) calm =
+    let parts = and_parts (is_calm b) (are_calm bytes) calm in
+    ap (λ t. cond t (one_symbol (symbol_at (drop 3 bytes))) (after_percent bytes)) (not-true (b == 37) (and_parts (not (b == 10)) (not (b == 37)) parts.0).1)
+    ∙ calm_needs bytes parts.1
+
+-- what follows a tab is looked through
+code_needs : (inst : Inst) → IsRead inst → needed_in (instruction_line inst) ≡ []
+code_needs inst (inl h) =
+    let line = ap instruction_line h.4 ∙ li_line h.0 h.1 in
+    ap needed_in line ∙ sym (ap after_percent line) ∙ calm_needs (instruction_line inst) (code_calm inst (inl h))
+code_needs inst (inr (inl h)) =
+    let line = ap instruction_line h.5 ∙ mv_line h.0 h.1 h.3 in
+    ap needed_in line ∙ sym (ap after_percent line) ∙ calm_needs (instruction_line inst) (code_calm inst (inr (inl h)))
+code_needs inst (inr (inr h)) = ap (λ i. needed_in (instruction_line i)) h
+
+-- the symbol of a name, where there is one
+abbrev pub symbol_if : Option (List ℕ) → List (List ℕ)
+symbol_if None = []
+symbol_if (Some name) = spelled name ∷ []
+
+pub line_defines : (statement : Statement) → IsStatement statement → defined_in (statement_line statement) ≡ symbol_if (defined statement)
+line_defines Text formed = refl
+line_defines (Global name) formed = refl
+line_defines Align formed = refl
+line_defines (Define name) formed = definition_defines name (no_label name formed.1)
+line_defines (Code inst) formed = code_defines inst formed
+
+pub line_exports : (statement : Statement) → IsStatement statement → exported_in (statement_line statement) ≡ symbol_if (exported statement)
+line_exports Text formed = refl
+line_exports (Global name) formed = export_exports name
+line_exports Align formed = refl
+line_exports (Define name) formed = definition_exports name
+line_exports (Code inst) formed = code_exports inst formed
+
+pub line_needs : (statement : Statement) → IsStatement statement → needed_in (statement_line statement) ≡ []
+line_needs Text formed = refl
+line_needs (Global name) formed = refl
+line_needs Align formed = refl
+line_needs (Define name) formed = definition_needs name
+line_needs (Code inst) formed = code_needs inst formed

@@ -1,7 +1,0 @@
-use Rattle.asm_read.specs.Checks.{globals}
-use Rattle.asm_read.proofs.CheckLemmas.{seen_more}
-use Rattle.asm_read.proofs.check.global_names.Goals as goal
-
-pub loop-line-preserved : goal.loop-line-preserved
-loop-line-preserved c = λ q.
-    seen_more (globals q) c.args.lines.now _ c.line-item.result _ _ c.loop-line-test.true c.line-item.is (c.loop-line.invariant q) (c.in_ok-add_global.ensures q)

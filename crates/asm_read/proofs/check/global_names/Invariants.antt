@@ -1,7 +1,0 @@
-use Rattle.std.proofs.Common.{◌≡◌, ℕ, List, take}
-use Rattle.std.specs.List.{list_any}
-use Rattle.asm_read.specs.Checks.{globals, has}
-use Rattle.asm_read.proofs.check.global_names.Given as goal
-
-abbrev pub invariant-loop-line : goal.invariant-loop-line
-invariant-loop-line l = (q : List ℕ) → has l.names q ≡ list_any (globals q) (take l.line-index l.lines)

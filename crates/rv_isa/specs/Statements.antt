@@ -1,0 +1,14 @@
+-- How the statements of assembly are spelled.
+use Rattle.std.specs.Prelude.{ℕ, List, [], ◌∷◌, ◌++◌, codes}
+use Rattle.rv_isa.specs.Symbol.{spelled}
+use Rattle.rv_isa.specs.Text.{instruction_line, spelled_line}
+use Rattle.rv_isa.specs.declared.statement.Statement.{Statement}
+use Rattle.rv_isa.specs.declared.statement.Statement.TheVariants.{Text, Global, Align, Define, Code}
+
+-- the line of a statement, without its line feed
+abbrev pub statement_line : Statement → List ℕ
+statement_line Text = spelled_line (codes ".text") []
+statement_line (Global name) = spelled_line (codes ".globl") (spelled name ∷ [])
+statement_line Align = spelled_line (codes ".p2align") (codes "2" ∷ [])
+statement_line (Define name) = spelled name ++ 58 ∷ []
+statement_line (Code inst) = instruction_line inst
