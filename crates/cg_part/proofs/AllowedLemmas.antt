@@ -26,8 +26,7 @@ use Rattle.cg_part.proofs.LinkingImage.{objects_once}
 use Rattle.cg_part.proofs.LinkingLists.{main_defined}
 use Rattle.cg_part.proofs.LinkingMain.{main_code}
 use Rattle.cg_part.proofs.LinkingNames.{part_differs}
-use Rattle.cg_part.proofs.LinkingProgram.{program_exits}
-use Rattle.cg_part.proofs.LinkingSizes.{program_least}
+use Rattle.cg_part.proofs.LinkingProgram.{program_exits, program_long}
 use Rattle.cg_part.proofs.Mains.{main_params}
 use Rattle.cg_part.proofs.Objects.{part_object}
 use Rattle.cg_part.proofs.Programs.{program_image, program_objects}
@@ -78,7 +77,7 @@ program_shows m f program main small input n =
     exits_allowed m f (program_image m) input (length (value_code constant.value) + 6)
     (low_bits 64 constant.value % 2 ^ 32) (wrapped 32 constant.value) n main
     (subst (λ (arguments : List ℕ). Returns f arguments (wrapped 32 constant.value)) none constant.returns)
-    (omega (arith, program_least m f main constant))
+    (program_long m f main constant)
     (constant_value constant.value constant.signed)
     (program_exits m f program main small constant input)
 

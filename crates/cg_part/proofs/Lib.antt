@@ -7,9 +7,9 @@ pub mod LinkingImage
 pub mod LinkingLists
 pub mod LinkingMain
 pub mod LinkingNames
+pub mod LinkingObject
+pub mod LinkingPart
 pub mod LinkingProgram
-pub mod LinkingSizes
-pub mod LinkingWords
 pub mod Mains
 pub mod NameLemmas
 pub mod Objects
@@ -17,7 +17,5 @@ pub mod PlaceLemmas
 pub mod Programs
 pub mod RunningCode
 pub mod RunningMain
-pub mod RunningProgram
 pub mod RunningSteps
 pub mod RunningValues
-pub mod RunningWords

@@ -1,11 +1,9 @@
--- Code that an image holds, and the code of the runtime.
-use Rattle.std.proofs.Common.{◌≡◌, ◌+◌, ◌%◌, ◌<◌, ◌≤◌, ℕ, ◌^◌, pos, List, [], ◌∷◌, Ok, All, map, ap, arith, refl}
+-- The code of the runtime is of the table, and its words are those of its lines.
+use Rattle.std.proofs.Common.{◌≡◌, ◌%◌, ◌<◌, ◌≤◌, ℕ, ◌^◌, pos, List, All, map, ap, arith, refl}
 use Rattle.std.proofs.lemmas.List.Elements.{All-from_recursion, All-append}
 use Rattle.std.proofs.lemmas.Int.{ints}
 use Rattle.rv_isa.specs.Encoding.{IsInst, IsSigned12, IsUnsigned20, encoded}
-use Rattle.rv_isa.specs.declared.inst.Inst.{Inst}
 use Rattle.rv_isa.proofs.Formats.{extended-12}
-use Rattle.rv_mach.specs.Layout.{fetched}
 use Rattle.obj_link.specs.Words.{high_part, line_word, moved}
 use Rattle.obj_link.specs.Runtime.{runtime_words}
 use Rattle.std.specs.Prelude.{codes}
@@ -13,11 +11,6 @@ use Rattle.rv_isa.specs.Instructions.{addi}
 use Rattle.cg_part.proofs.Programs.{load_high, call_low, start_code, host_code, runtime_code}
 use Rattle.rv_isa.specs.Instructions.{ecall}
 use Rattle.cg_part.proofs.InstructionLemmas.{addi_formed, move_formed, return_formed}
-
--- an image has these instructions, the first of them at an address
-abbrev pub HasCode : List ℕ → ℕ → List Inst → Type 0
-HasCode image address [] = Unit {0}
-HasCode image address (i ∷ code) = (fetched image address ≡ Ok (encoded i)) × HasCode image (address + 4) code
 
 unsigned_20 : (n : ℕ) → n < 0x100000 → IsUnsigned20 (pos n)
 unsigned_20 n fits = grind (arith, ints)

@@ -1,115 +1,152 @@
 -- What a machine shows whose image begins with the runtime's start, where `main` returns a constant.
-use Rattle.std.proofs.Common.{◌≡◌, ◌+◌, ◌-◌, ◌%◌, ◌^◌, ◌<◌, ◌++◌, ◌∷◌, [], ℕ, ℤ, pos, suc, Bool, true, false, cond, List, length, replicate, refl, ap, ap₂, sym, arith, subst, Ok}
-use Rattle.rv_isa.specs.Encoding.{IsInst, IsSigned12, encoded}
+use Rattle.std.proofs.Common.{◌≡◌, ◌+◌, ◌-◌, ◌%◌, ◌≤◌, ◌^◌, ◌<◌, ◌++◌, ◌∷◌, [], ℕ, ℤ, pos, Bool, true, false, cond, List, length, Ok, refl, ap, ap₂, sym, ◌∙◌, arith, subst}
+use Rattle.std.specs.Prelude.{slice_index}
+use Rattle.rv_isa.specs.Encoding.{IsSigned12}
 use Rattle.rv_isa.specs.Format.{low_bits}
+use Rattle.rv_isa.specs.Instructions.{addi, ecall, mv, ret}
+use Rattle.rv_isa.specs.Registers.{a0, a7, ra, sp}
 use Rattle.rv_isa.specs.Text.{is_zero}
 use Rattle.rv_isa.specs.declared.inst.Inst.{Inst}
-use Rattle.rv_mach.specs.Layout.{fetched, stack_start, stack_end}
-use Rattle.rv_mach.specs.State.{State, Run, fresh, zeros, wrapped}
-use Rattle.rv_mach.specs.Step.{act, settled, upper_immediate}
-use Rattle.rv_mach.specs.declared.stop.Stop.TheVariants.{Running}
+use Rattle.rv_mach.specs.Code.{HasCode, after_code}
+use Rattle.rv_mach.specs.Layout.{fetched}
+use Rattle.rv_mach.specs.Registers.{IsRegisterFile}
+use Rattle.rv_mach.specs.Run.{run_of}
+use Rattle.rv_mach.specs.State.{State, fresh, register, start, wrapped}
+use Rattle.rv_mach.specs.Step.{instruction_fetched, sum_of, upper_immediate}
+use Rattle.rv_mach.proofs.CodeParts.{has-front, has-back}
+use Rattle.rv_mach.proofs.Lookups.{register-same, register-other}
+use Rattle.rv_mach.proofs.OnTheWay.{run-then}
+use Rattle.rv_mach.proofs.PlainCode.{AllCompute, AllLeave, all-compute, all-leave, plain-returns, plain-straight}
+use Rattle.rv_mach.proofs.Registers.{after_code-file, start-file}
+use Rattle.rv_mach.proofs.Straight.{StandsAt, run-block}
 use Rattle.obj_link.specs.Words.{high_part, low_part}
 use Rattle.cg_part.specs.Code.{value_code}
-use Rattle.rv_isa.specs.Instructions.{addi, mv, ret}
 use Rattle.cg_part.proofs.Programs.{load_high, call_low, start_code}
-use Rattle.rv_isa.specs.Instructions.{ecall}
-use Rattle.cg_part.proofs.InstructionLemmas.{addi_formed, move_formed, return_formed}
-use Rattle.cg_part.proofs.RunningCode.{HasCode, load_formed, call_formed, ecall_formed, number_formed}
-use Rattle.cg_part.proofs.RunningSteps.{Stands, ExitsAfter, stands_at_start, stands_next, exits_next}
-use Rattle.cg_part.proofs.RunningValues.{call_target, jump_target, loaded, moved, zero_bits}
+use Rattle.cg_part.proofs.RunningSteps.{ExitsAfter, exits_at}
+use Rattle.cg_part.proofs.RunningValues.{call_target, loaded, moved, zero_bits}
 
--- the machine at an address, with numbers in ra, t0, a0 and a7; sp is where the stack ends
-abbrev pub standing : List ℕ → ℕ → ℕ → ℕ → ℕ → ℕ → State
-standing image pc ra t0 a0 a7 =
+-- the start's code up to its call, and behind it
+abbrev before_call : ℕ → List Inst
+before_call address = addi 10 0 (pos 0) ∷ addi 11 0 (pos 0) ∷ load_high 1 address ∷ []
+
+abbrev after_call : List Inst
+after_call = addi 17 0 (pos 93) ∷ ecall ∷ []
+
+before_computes : (address : ℕ) → AllCompute (before_call address)
+before_computes address = all-compute (before_call address) (tt, (tt, (tt, tt)))
+
+before_leaves : (address : ℕ) → AllLeave sp (before_call address)
+before_leaves address = all-leave sp (before_call address) ((λ e. cc), ((λ e. cc), ((λ e. cc), tt)))
+
+-- `main` was called after four steps, with the address behind the call in ra
+record Called (image input : List ℕ) (address : ℕ) : Type 0 where
+  pub m : State
+  pub ran : run_of input 4 (start image) ≡ fresh m
+  pub at : StandsAt image address m
+  pub back : register ra m ≡ 0x10010
+
+start_calls : (image input : List ℕ) (address : ℕ) → address % 4 ≡ 0 → address < 2 ^ 30 → HasCode image 0x10000 (start_code address) → Called image input address
+start_calls image input address aligned small code =
+    let begun : State = start image in
+    let calling : List Inst = before_call address ++ call_low 1 address ∷ [] in
+    let target = call_target address small in
+    let upper : ℕ = upper_immediate (pos (high_part address)) in
+    let sum : ℕ = wrapped (upper + low_bits 64 (low_part address)) in
+    let there : sum - sum % 2 ≡ address = omega (arith, target) in
+    let at : StandsAt image 0x10000 begun =
+    record { image_is = refl; pc_is = refl; going = refl; room = omega arith; file = start-file image } in
+    let ran : run_of input 4 begun ≡ after_code input calling (fresh begun) =
+    run-block image input 0x10000 calling begun at (has-front image 0x10000 calling after_call code) (omega arith)
+    (plain-straight input (before_call address) (call_low 1 address) begun (before_computes address) (before_leaves address) at.room) in
     record {
-      pc = pc;
-      registers = 0 ∷ ra ∷ stack_end ∷ 0 ∷ 0 ∷ t0 ∷ 0 ∷ 0 ∷ 0 ∷ 0 ∷ a0 ∷ 0 ∷ 0 ∷ 0 ∷ 0 ∷ 0 ∷ 0 ∷ a7 ∷ replicate 14 0;
-      image = image;
-      stack = zeros (stack_end - stack_start);
-      taken = 0;
-      stop = Running;
+      m = (after_code input calling (fresh begun)).machine;
+      ran = ran;
+      at = record { image_is = refl; pc_is = there; going = refl; room = omega arith; file = after_code-file input calling (fresh begun) at.file };
+      back = refl;
     }
 
-module _ (image input : List ℕ) where
-  -- one instruction takes the machine from such a state to another
-  next_runs : (steps pc ra t0 a0 a7 pc' ra' t0' a0' a7' : ℕ) (i : Inst) → Stands image input steps (standing image pc ra t0 a0 a7)
-      → IsInst i → fetched image pc ≡ Ok (encoded i)
-      → settled (act input i (standing image pc ra t0 a0 a7)) [] ≡ fresh (standing image pc' ra' t0' a0' a7')
-      → Stands image input (suc steps) (standing image pc' ra' t0' a0' a7')
-  next_runs steps pc ra t0 a0 a7 pc' ra' t0' a0' a7' i stands is fetch goes =
-      stands_next image input steps (standing image pc ra t0 a0 a7) (standing image pc' ra' t0' a0' a7') i stands
-      (record { going = refl; room = omega arith; is = is; fetch = fetch }) goes refl
+-- what the code of a constant leaves in a0, and that it computes alone
+record Loads (code : List Inst) (value : ℤ) : Type 0 where
+  pub short : length code ≤ 2
+  pub computes : AllCompute code
+  pub stack : AllLeave sp code
+  pub link : AllLeave ra code
+  pub result : (input : List ℕ) (m : State) → IsRegisterFile m.registers → register a0 (after_code input code (fresh m)).machine ≡ low_bits 64 value
 
-  -- `main` is called, with the address after the call in ra
-  start_runs : (address : ℕ) → address % 4 ≡ 0 → address < 2 ^ 30 → HasCode image 0x10000 (start_code address)
-      → Stands image input 4 (standing image address 0x10010 0 0 0)
-  start_runs address aligned small code =
-      let ra = upper_immediate (pos (high_part address)) in
-      let target = jump_target (wrapped (ra + low_bits 64 (low_part address))) address (call_target address small) aligned in
-      let jumped : ℕ → Run = λ pc. fresh (standing image pc 0x10010 0 0 0) in
-      let one = next_runs 0 0x10000 0 0 0 0 0x10004 0 0 0 0 (addi 10 0 (pos 0)) (stands_at_start image input)
-      (move_formed 10 0 (omega arith) (omega arith)) code.0 refl in
-      let two = next_runs 1 0x10004 0 0 0 0 0x10008 0 0 0 0 (addi 11 0 (pos 0)) one
-      (move_formed 11 0 (omega arith) (omega arith)) code.1.0 refl in
-      let three = next_runs 2 0x10008 0 0 0 0 0x1000C ra 0 0 0 (load_high 1 address) two
-      (load_formed 1 address (omega arith)) code.1.1.0 refl in
-      next_runs 3 0x1000C ra 0 0 0 address 0x10010 0 0 0 (call_low 1 address) three
-      (call_formed 1 address (omega arith)) code.1.1.1.0 (ap jumped target)
+constant_loads : (zero : Bool) (value : ℤ) → is_zero value ≡ zero → IsSigned12 value
+    → Loads (cond zero (addi 10 0 (pos 0) ∷ []) (addi 5 0 value ∷ mv 10 5 ∷ [])) value
+constant_loads true value is signed =
+    let code : List Inst = addi 10 0 (pos 0) ∷ [] in
+    record {
+      short = omega arith;
+      computes = all-compute code (tt, tt);
+      stack = all-leave sp code ((λ e. cc), tt);
+      link = all-leave ra code ((λ e. cc), tt);
+      result = λ input m file.
+          register-same 10 (sum_of (addi 10 0 (pos 0)) m) m (omega arith) (omega (arith, file.count))
+          ∙ ap (λ x. wrapped (x + 0)) file.zero
+          ∙ sym (zero_bits value is);
+    }
+constant_loads false value is signed =
+    let code : List Inst = addi 5 0 value ∷ mv 10 5 ∷ [] in
+    record {
+      short = omega arith;
+      computes = all-compute code (tt, (tt, tt));
+      stack = all-leave sp code ((λ e. cc), ((λ e. cc), tt));
+      link = all-leave ra code ((λ e. cc), ((λ e. cc), tt));
+      result = λ input m file.
+          let one = addi 5 0 value ∷ [] in
+          let m' : State = (after_code input one (fresh m)).machine in
+          let whole = after_code-file input one (fresh m) file in
+          let first : register 5 m' ≡ low_bits 64 value =
+          register-same 5 (sum_of (addi 5 0 value) m) m (omega arith) (omega (arith, file.count))
+          ∙ ap (λ x. wrapped (x + low_bits 64 value)) file.zero ∙ loaded value signed in
+          register-same 10 (sum_of (mv 10 5) m') m' (omega arith) (omega (arith, whole.count))
+          ∙ ap (λ x. wrapped (x + 0)) first ∙ moved value signed;
+    }
 
-  -- a copy of zero into a0
-  zero_runs : (address : ℕ) → address < 2 ^ 30 → HasCode image address (addi 10 0 (pos 0) ∷ [])
-      → Stands image input 4 (standing image address 0x10010 0 0 0)
-      → Stands image input 5 (standing image (address + 4) 0x10010 0 0 0)
-  zero_runs address small code stands =
-      let moved_on : ℕ → Run = λ pc. fresh (standing image pc 0x10010 0 0 0) in
-      let next : wrapped (address + 4) ≡ address + 4 = omega arith in
-      next_runs 4 address 0x10010 0 0 0 (address + 4) 0x10010 0 0 0 (addi 10 0 (pos 0)) stands
-      (move_formed 10 0 (omega arith) (omega arith)) code.0 (ap moved_on next)
+-- A machine that stands behind the call exits with the low 32 bits of a0 at its second step.
+behind_call : (image input : List ℕ) (steps : ℕ) (m : State) → run_of input steps (start image) ≡ fresh m → StandsAt image 0x10010 m
+    → HasCode image 0x10010 after_call → ExitsAfter image input (steps + 1) (register a0 m % 2 ^ 32)
+behind_call image input steps m ran at code =
+    let number : List Inst = addi 17 0 (pos 93) ∷ [] in
+    let sum : ℕ = sum_of (addi 17 0 (pos 93)) m in
+    let next : State = (after_code input number (fresh m)).machine in
+    let one : run_of input 1 m ≡ fresh next = run-block image input 0x10010 number m at (code.0, tt) (omega arith) at.room in
+    let count = at.file.count in
+    let stack : register sp next ≡ register sp m = register-other 17 sp sum m (λ e. cc) in
+    let result : register a0 next ≡ register a0 m = register-other 17 a0 sum m (λ e. cc) in
+    let exiting : register a7 next ≡ 93 =
+    register-same 17 sum m (omega arith) (omega arith) ∙ ap (λ x. wrapped (x + 93)) at.file.zero in
+    let there : StandsAt image 0x10014 next =
+    record {
+      image_is = at.image_is;
+      pc_is = ap (λ pc. wrapped (pc + 4)) at.pc_is;
+      going = at.going;
+      room = omega (arith, at.room);
+      file = after_code-file input number (fresh m) at.file;
+    } in
+    let has : instruction_fetched (fetched next.image next.pc) ≡ Ok ecall =
+    ap₂ (λ bytes pc. instruction_fetched (fetched bytes pc)) there.image_is there.pc_is ∙ code.1.0 in
+    subst (λ bits. ExitsAfter image input (steps + 1) (bits % 2 ^ 32)) result
+    (exits_at image input (steps + 1) 0x10014 next (run-then input steps 1 (start image) (fresh m) (fresh next) ran one) there has exiting)
 
-  -- a constant into a0, by way of t0
-  constant_runs : (address : ℕ) (value : ℤ) → address < 2 ^ 30 → IsSigned12 value
-      → HasCode image address (addi 5 0 value ∷ mv 10 5 ∷ []) → Stands image input 4 (standing image address 0x10010 0 0 0)
-      → Stands image input 6 (standing image (address + 4 + 4) 0x10010 (low_bits 64 value) (low_bits 64 value) 0)
-  constant_runs address value small signed code stands =
-      let bits = low_bits 64 value in
-      let first : wrapped (address + 4) ≡ address + 4 = omega arith in
-      let second : wrapped (address + 4 + 4) ≡ address + 4 + 4 = omega arith in
-      let into_t0 : ℕ → ℕ → Run = λ pc t0. fresh (standing image pc 0x10010 t0 0 0) in
-      let into_a0 : ℕ → ℕ → Run = λ pc a0. fresh (standing image pc 0x10010 bits a0 0) in
-      let five = next_runs 4 address 0x10010 0 0 0 (address + 4) 0x10010 bits 0 0 (addi 5 0 value) stands
-      (addi_formed 5 0 value (omega arith) (omega arith) signed) code.0 (ap₂ into_t0 first (loaded value signed)) in
-      next_runs 5 (address + 4) 0x10010 bits 0 0 (address + 4 + 4) 0x10010 bits bits 0 (mv 10 5) five
-      (move_formed 10 5 (omega arith) (omega arith)) code.1.0 (ap₂ into_a0 second (moved value signed))
-
-  -- `main` returns, and the program exits with what it left in a0
-  end_runs : (address steps pc t0 a0 : ℕ) → HasCode image 0x10000 (start_code address) → HasCode image pc (ret ∷ [])
-      → Stands image input steps (standing image pc 0x10010 t0 a0 0) → ExitsAfter image input (steps + 2) (a0 % 2 ^ 32)
-  end_runs address steps pc t0 a0 code returns stands =
-      let back = next_runs steps pc 0x10010 t0 a0 0 0x10010 0x10010 t0 a0 0 ret stands return_formed returns.0 refl in
-      let number = next_runs (suc steps) 0x10010 0x10010 t0 a0 0 0x10014 0x10010 t0 a0 93 (addi 17 0 (pos 93)) back
-      (number_formed 93 (omega arith)) code.1.1.1.1.0 refl in
-      let exits = exits_next image input (suc (suc steps)) (a0 % 2 ^ 32) (standing image 0x10014 0x10010 t0 a0 93) ecall number
-      (record { going = refl; room = omega arith; is = ecall_formed; fetch = code.1.1.1.1.1.0 }) refl in
-      let same : suc (suc steps) ≡ steps + 2 = omega arith in
-      subst (λ n. ExitsAfter image input n (a0 % 2 ^ 32)) same exits
-
-  -- the code of a constant, which is zero or not
-  value_runs : (zero : Bool) (address : ℕ) (value : ℤ) → is_zero value ≡ zero → IsSigned12 value → address < 2 ^ 30
-      → HasCode image 0x10000 (start_code address)
-      → HasCode image address (cond zero (addi 10 0 (pos 0) ∷ []) (addi 5 0 value ∷ mv 10 5 ∷ []) ++ ret ∷ [])
-      → Stands image input 4 (standing image address 0x10010 0 0 0)
-      → ExitsAfter image input (length (cond zero (addi 10 0 (pos 0) ∷ []) (addi 5 0 value ∷ mv 10 5 ∷ [])) + 6) (low_bits 64 value % 2 ^ 32)
-  value_runs true address value is signed small begin code stands =
-      subst (λ bits. ExitsAfter image input 7 (bits % 2 ^ 32)) (sym (zero_bits value is))
-      (end_runs address 5 (address + 4) 0 0 begin code.1 (zero_runs address small (code.0, tt) stands))
-  value_runs false address value is signed small begin code stands =
-      end_runs address 6 (address + 4 + 4) (low_bits 64 value) (low_bits 64 value) begin code.1.1
-      (constant_runs address value small signed (code.0, (code.1.0, tt)) stands)
-
-  -- The machine runs 4 instructions of the start, those of the constant, the return and one more, and exits
-  -- at the next with the low 32 bits of the constant.
-  pub main_runs : (address : ℕ) (value : ℤ) → IsSigned12 value → address % 4 ≡ 0 → address < 2 ^ 30
-      → HasCode image 0x10000 (start_code address) → HasCode image address (value_code value ++ ret ∷ [])
-      → ExitsAfter image input (length (value_code value) + 6) (low_bits 64 value % 2 ^ 32)
-  main_runs address value signed aligned small begin code =
-      value_runs (is_zero value) address value refl signed small begin code (start_runs address aligned small begin)
+-- The machine runs 4 instructions of the start, those of the constant, the return and one more, and exits
+-- at the next with the low 32 bits of the constant.
+pub main_runs : (image input : List ℕ) (address : ℕ) (value : ℤ) → IsSigned12 value → address % 4 ≡ 0 → address < 2 ^ 30
+    → HasCode image 0x10000 (start_code address) → HasCode image address (value_code value ++ ret ∷ [])
+    → ExitsAfter image input (length (value_code value) + 6) (low_bits 64 value % 2 ^ 32)
+main_runs image input address value signed aligned small begin code =
+    let call = start_calls image input address aligned small begin in
+    let loads : Loads (value_code value) value = constant_loads (is_zero value) value refl signed in
+    let short = loads.short in
+    let own : ℕ = length (value_code value) + 1 in
+    let main = plain-returns image input address 0x10010 (value_code value) call.m call.at code (omega arith) loads.computes loads.stack loads.link
+        call.back refl (omega arith) in
+    let behind : HasCode image 0x10010 after_call = has-back image 0x10000 (before_call address ++ call_low 1 address ∷ []) after_call begin in
+    let result : register a0 main.next ≡ low_bits 64 value =
+    ap (λ registers. slice_index registers a0) main.registers ∙ loads.result input call.m call.at.file in
+    let steps : 4 + own + 1 ≡ length (value_code value) + 6 = omega arith in
+    subst (λ n. ExitsAfter image input n (low_bits 64 value % 2 ^ 32)) steps
+    (subst (λ bits. ExitsAfter image input (4 + own + 1) (bits % 2 ^ 32)) result
+    (behind_call image input (4 + own) main.next (run-then input 4 own (start image) (fresh call.m) (fresh main.next) call.ran main.ran) main.at behind))

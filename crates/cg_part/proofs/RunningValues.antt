@@ -1,5 +1,5 @@
 -- The numbers in registers while a program that returns a constant runs.
-use Rattle.std.proofs.Common.{◌≡◌, ◌+◌, ◌-◌, ◌%◌, ◌^◌, ◌<◌, ℕ, ℤ, pos, negsuc, true, arith}
+use Rattle.std.proofs.Common.{◌≡◌, ◌+◌, ◌%◌, ◌^◌, ◌<◌, ℕ, ℤ, pos, negsuc, true, arith}
 use Rattle.std.proofs.lemmas.Int.{ints}
 use Rattle.std.proofs.lemmas.Bool.Decides.{nat_tests}
 use Rattle.rv_isa.specs.Encoding.{IsSigned12}
@@ -13,10 +13,6 @@ use Rattle.cg_part.specs.Meaning.{wrapped as value_of_bits}
 -- the two parts of an address give it back
 pub call_target : (address : ℕ) → address < 2 ^ 30 → wrapped (upper_immediate (pos (high_part address)) + low_bits 64 (low_part address)) ≡ address
 call_target address small = grind (arith, ints, nat_tests)
-
--- an aligned address is not changed by a jump to it
-pub jump_target : (sum address : ℕ) → sum ≡ address → address % 4 ≡ 0 → sum - sum % 2 ≡ address
-jump_target sum address same aligned = omega arith
 
 -- the bits of a constant fit a register, and are what adding it to 0 gives
 pub loaded : (value : ℤ) → IsSigned12 value → wrapped (0 + low_bits 64 value) ≡ low_bits 64 value

@@ -1,7 +1,11 @@
+pub mod Around
 pub mod Causes
 pub mod Encodable
 pub mod FirstNames
+pub mod ImageParts
 pub mod Lists
 pub mod Needs
+pub mod OneAddress
 pub mod Placing
+pub mod Reaching
 pub mod Sizes

@@ -1,6 +1,6 @@
 -- Which objects define which names.
 use Rattle.std.specs.Prelude.{◌&&◌, ◌||◌, ℕ, Bool, not, List, [], ◌∷◌, ◌++◌, map, filter}
-use Rattle.std.specs.List.{flat_map, list_any}
+use Rattle.std.specs.List.{IsDistinct, flat_map, list_any}
 use Rattle.std.specs.Str.{bytes_eq}
 use Rattle.asm_read.specs.declared.object.Object.{Object}
 
@@ -32,3 +32,7 @@ undefined_of objects object = filter (λ name. not (defines object name || is_gl
 
 abbrev pub undefined : List Object → List (List ℕ)
 undefined objects = flat_map (undefined_of objects) objects
+
+-- the symbols of an object have different names
+abbrev pub HasDistinctNames : Object → Type 0
+HasDistinctNames object = IsDistinct bytes_eq (map (λ s. s.name) object.symbols)

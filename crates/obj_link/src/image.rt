@@ -8,7 +8,7 @@ use std::marker::Model;
 pub const MAX_IMAGE_BYTES: u64 = 67_108_864;
 
 /// The bytes of an image. Contracts see a list.
-#[derive(Debug, Drop)]
+#[derive(Drop)]
 pub struct Bytes {
     bytes: Vec<u8>,
 }
@@ -38,7 +38,7 @@ impl Bytes {
 }
 
 /// A symbol and its address.
-#[derive(Debug, Drop)]
+#[derive(Drop)]
 pub struct SymbolAddress {
     /// Its name.
     pub name: SymName,
@@ -47,7 +47,7 @@ pub struct SymbolAddress {
 }
 
 /// The addresses of an object's symbols, in their order. Contracts see a list.
-#[derive(Debug, Drop)]
+#[derive(Drop)]
 pub struct ObjectAddresses {
     symbols: Vec<SymbolAddress>,
 }
@@ -83,7 +83,7 @@ impl ObjectAddresses {
 
 /// The addresses of all symbols: those of the runtime, then those of each object. Contracts see a
 /// list.
-#[derive(Debug, Drop)]
+#[derive(Drop)]
 pub struct Addresses {
     objects: Vec<ObjectAddresses>,
 }
@@ -118,7 +118,7 @@ impl Addresses {
 }
 
 /// A linked program, as it lies in memory from address 0x10000 on.
-#[derive(Debug, Drop)]
+#[derive(Drop)]
 pub struct Image {
     /// The bytes, the first of them at address 0x10000.
     pub bytes: Bytes,

@@ -1,7 +1,8 @@
-//! Where the text of each object lies, and the addresses of its symbols.
+//! Where the sections of each object lie, and the addresses of its symbols.
 ghost use Rattle.std.specs.Prelude.{◌≡◌, ◌≤◌, ◌+◌, ◌-◌, ◌*◌, ◌%◌, ◌^◌, ◌+ℤ◌, ◌++◌, ℕ, ℤ, pos, negsuc, List, length, map, filter, min, IfOk, OnOk};
-ghost use Rattle.obj_link.specs.Layout.{size_of, image_size, text_begin, low_64, symbol_address, addressed, addresses, globals};
+ghost use Rattle.obj_link.specs.Layout.{size_of, image_size, begins_of, low_64, address_in, addressed, addresses, globals};
 
+use crate::begins::Begins;
 use crate::image::{Addresses, ObjectAddresses, SymbolAddress};
 use crate::inputs::Inputs;
 use asm_read::{Object, ObjectSymbol};
@@ -35,11 +36,11 @@ pub fn all_addresses(alloc: Global, inputs: &Inputs<'_>) -> Result<Addresses, Al
     ensures { IfOk result (λ a. a ≡ addresses inputs.now) }
 {
     let mut objects = Vec::new(alloc);
-    let mut begin = IMAGE_BEGIN;
+    let mut text = IMAGE_BEGIN;
     for index in 0..inputs.len() {
         let object = inputs.get(index);
-        objects.push(addresses_of(alloc, begin, object.symbols.as_slice())?)?;
-        begin += text_size(object);
+        objects.push(addresses_of(alloc, Begins { text }, object.symbols.as_slice())?)?;
+        text += text_size(object);
     }
     Ok(Addresses::from_vec(objects))
 }
@@ -50,25 +51,30 @@ pub fn global_addresses(alloc: Global, inputs: &Inputs<'_>) -> Result<ObjectAddr
     ensures { IfOk result (λ a. a ≡ globals inputs.now) }
 {
     let mut found = Vec::new(alloc);
-    let mut begin = IMAGE_BEGIN;
+    let mut text = IMAGE_BEGIN;
     for index in 0..inputs.len() {
         let object = inputs.get(index);
-        push_globals(alloc, &mut found, begin, object.symbols.as_slice())?;
-        begin += text_size(object);
+        push_globals(
+            alloc,
+            &mut found,
+            Begins { text },
+            object.symbols.as_slice(),
+        )?;
+        text += text_size(object);
     }
     Ok(ObjectAddresses::from_vec(found))
 }
 
 fn addresses_of(
     alloc: Global,
-    begin: u64,
+    begins: Begins,
     symbols: &[ObjectSymbol],
 ) -> Result<ObjectAddresses, AllocError>
-    ensures { IfOk result (λ a. a ≡ map (addressed begin) symbols.now) }
+    ensures { IfOk result (λ a. a ≡ map (addressed begins) symbols.now) }
 {
     let mut found = Vec::new(alloc);
     for symbol in symbols {
-        found.push(address_of_symbol(alloc, begin, symbol)?)?;
+        found.push(address_of_symbol(alloc, begins, symbol)?)?;
     }
     Ok(ObjectAddresses::from_vec(found))
 }
@@ -76,15 +82,15 @@ fn addresses_of(
 fn push_globals(
     alloc: Global,
     found: &mut Vec<SymbolAddress>,
-    begin: u64,
+    begins: Begins,
     symbols: &[ObjectSymbol],
 ) -> Result<(), AllocError>
     ensures { OnOk result (found.new.items
-        ≡ found.old.items ++ map (addressed begin) (filter (λ s. s.global) symbols.now)) }
+        ≡ found.old.items ++ map (addressed begins) (filter (λ s. s.global) symbols.now)) }
 {
     for symbol in symbols {
         if symbol.global {
-            found.push(address_of_symbol(alloc, begin, symbol)?)?;
+            found.push(address_of_symbol(alloc, begins, symbol)?)?;
         }
     }
     Ok(())
@@ -92,23 +98,30 @@ fn push_globals(
 
 fn address_of_symbol(
     alloc: Global,
-    begin: u64,
+    begins: Begins,
     symbol: &ObjectSymbol,
 ) -> Result<SymbolAddress, AllocError>
-    ensures { IfOk result (λ a. a ≡ addressed begin symbol.now) }
+    ensures { IfOk result (λ a. a ≡ addressed begins symbol.now) }
 {
     let name = Vec::from_slice(alloc, symbol.name.as_bytes())?;
     Ok(SymbolAddress {
         name: SymName::from_vec(name),
-        address: symbol_place(begin, symbol),
+        address: symbol_place(begins, symbol),
     })
 }
 
-/// The address of a symbol of an object whose text begins here.
-pub fn symbol_place(begin: u64, symbol: &ObjectSymbol) -> u64
-    ensures { result ≡ symbol_address begin symbol.now }
+/// The address of a symbol of an object whose sections begin here.
+pub fn symbol_place(begins: Begins, symbol: &ObjectSymbol) -> u64
+    ensures { result ≡ address_in begins symbol.now }
 {
-    begin.wrapping_add(modulo_64(symbol.offset))
+    moved_by(begins.of(symbol.section), symbol.offset)
+}
+
+/// The address at this distance from another one.
+fn moved_by(begin: u64, offset: i128) -> u64
+    ensures { result ≡ low_64 (pos begin +ℤ offset) }
+{
+    begin.wrapping_add(modulo_64(offset))
 }
 
 /// A number modulo 2^64.

@@ -5,6 +5,7 @@ ghost use Rattle.obj_link.specs.Image.{linked_image};
 ghost use Rattle.obj_link.specs.Layout.{image_size};
 ghost use Rattle.obj_link.specs.Names.{duplicates};
 ghost use Rattle.obj_link.specs.Runtime.{runtime};
+ghost use Rattle.obj_link.specs.Words.{image_bytes};
 
 use crate::image::{Bytes, Image, MAX_IMAGE_BYTES};
 use crate::inputs::Inputs;
@@ -105,11 +106,18 @@ fn image_of_size(alloc: Global, inputs: &Inputs<'_>, size: u64) -> Result<Image,
     requires size { size ≡ image_size inputs.now }
     ensures { IfOk result (λ image. image ≡ linked_image inputs.now) }
 {
-    let globals = global_addresses(alloc, inputs)?;
-    let bytes = bytes_of_image(alloc, inputs, globals.as_slice())?;
+    let addresses = all_addresses(alloc, inputs)?;
     Ok(Image {
-        bytes: Bytes::from_vec(bytes),
+        bytes: Bytes::from_vec(linked_bytes(alloc, inputs)?),
         instructions: size / 4,
-        addresses: all_addresses(alloc, inputs)?,
+        addresses,
     })
+}
+
+fn linked_bytes(alloc: Global, inputs: &Inputs<'_>) -> Result<Vec<u8>, AllocError>
+    requires { image_size inputs.now ≤ 67108864 }
+    ensures { IfOk result (λ bytes. bytes.items ≡ image_bytes inputs.now) }
+{
+    let globals = global_addresses(alloc, inputs)?;
+    bytes_of_image(alloc, inputs, globals.as_slice())
 }

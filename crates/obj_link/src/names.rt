@@ -2,6 +2,7 @@
 ghost use Rattle.std.specs.Prelude.{◌≡◌, not, ◌∷◌, ◌≤◌, ◌&&◌, ◌||◌, List, [], length, take, drop, map, filter, find, option_map, slice_get};
 ghost use Rattle.std.specs.Option.{option_copied};
 ghost use Rattle.std.specs.List.{flat_map};
+ghost use Rattle.std.specs.Str.{bytes_eq};
 ghost use Rattle.obj_link.specs.Names.{defines, defines_global, is_global, duplicates_of, duplicates, undefined_of, undefined};
 
 use crate::inputs::Inputs;
@@ -88,9 +89,12 @@ fn defines_global(object: &Object, name: &[u8]) -> bool
 fn defines(object: &Object, name: &[u8]) -> bool
     ensures { result ≡ defines object.now name.now }
 {
-    object
-        .symbols
-        .as_slice()
-        .iter()
-        .any(|symbol| symbol.name.as_bytes() == name)
+    own_symbol(object.symbols.as_slice(), name).is_some()
+}
+
+/// The first of these symbols that has this name.
+pub fn own_symbol<'a>(symbols: &'a [ObjectSymbol], name: &[u8]) -> Option<&'a ObjectSymbol>
+    ensures { option_copied result ≡ find (λ s. bytes_eq s.name name.now) symbols.now }
+{
+    symbols.iter().find(|symbol| symbol.name.as_bytes() == name)
 }

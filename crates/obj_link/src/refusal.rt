@@ -2,7 +2,7 @@
 use rv_isa::SymName;
 
 /// Why there is no image. The variants are in the order in which they are looked for.
-#[derive(Debug, Drop)]
+#[derive(Drop)]
 pub enum LinkRefusal {
     /// A global symbol that an object before, or the runtime, also defines as a global one.
     Duplicate {
@@ -24,7 +24,7 @@ pub enum LinkRefusal {
 }
 
 /// Why objects whose global names differ have no image. The variants are in the order in which they are looked for.
-#[derive(Debug, Drop)]
+#[derive(Drop)]
 pub enum Unlinked {
     /// A name that an object needs, which neither it nor a global symbol defines.
     Undefined {

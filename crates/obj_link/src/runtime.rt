@@ -1,9 +1,6 @@
 //! The runtime, which every program begins with.
-ghost use Rattle.std.specs.Prelude.{◌≡◌, ◌∷◌, ◌++◌, [], pos, codes, true, IfOk, length};
+ghost use Rattle.std.specs.Prelude.{◌≡◌, ◌∷◌, [], pos, codes, true, IfOk, length};
 ghost use Rattle.obj_link.specs.Runtime.{entry, runtime, runtime_symbols, runtime_words};
-ghost use Rattle.rv_isa.specs.Instructions.{ecall, li};
-ghost use Rattle.rv_isa.specs.Registers.{a7};
-ghost use Rattle.rv_isa.specs.declared.inst.Line.TheVariants.{Plain};
 
 use asm_read::{Needs, Object, ObjectSymbol, Section, Symbols, Words};
 use rv_isa::{A0, A1, A7, Inst, Line, RA, SymName};
@@ -24,56 +21,59 @@ const EXIT: i64 = 93;
 pub fn runtime_object(alloc: Global) -> Result<Object, AllocError>
     ensures { IfOk result (λ object. object ≡ runtime) }
 {
-    let mut needs = Vec::new(alloc);
-    needs.push(symbol_name(alloc, b"main")?)?;
+    let needs = needs(alloc)?;
+    let symbols = symbols(alloc)?;
     Ok(Object {
-        words: lines(alloc)?,
-        symbols: symbols(alloc)?,
-        needs: Needs::from_vec(needs),
+        words: words(alloc)?,
+        symbols,
+        needs,
     })
 }
 
-fn lines(alloc: Global) -> Result<Words, AllocError>
+fn words(alloc: Global) -> Result<Words, AllocError>
     ensures { IfOk result (λ words. words ≡ runtime_words) }
 {
-    let mut lines = Vec::new(alloc);
-    lines.push(Line::Plain(Inst::li(A0, 0)))?;
-    lines.push(Line::Plain(Inst::li(A1, 0)))?;
-    lines.push(Line::High {
-        inst: Inst::lui(RA, 0),
-        symbol: symbol_name(alloc, b"main")?,
-        offset: 0,
-    })?;
-    lines.push(Line::Low {
-        inst: Inst::jalr(RA, RA, 0),
-        symbol: symbol_name(alloc, b"main")?,
-        offset: 0,
-    })?;
-    call_host(&mut lines, EXIT)?;
-    call_host(&mut lines, PUT)?;
-    lines.push(Line::Plain(Inst::ret()))?;
-    call_host(&mut lines, GET)?;
-    lines.push(Line::Plain(Inst::ret()))?;
+    let high = symbol_name(alloc, b"main")?;
+    let low = symbol_name(alloc, b"main")?;
+    let lines = vec![in alloc;
+        Line::Plain(Inst::li(A0, 0)),
+        Line::Plain(Inst::li(A1, 0)),
+        Line::High {
+            inst: Inst::lui(RA, 0),
+            symbol: high,
+            offset: 0
+        },
+        Line::Low {
+            inst: Inst::jalr(RA, RA, 0),
+            symbol: low,
+            offset: 0
+        },
+        Line::Plain(Inst::li(A7, EXIT)),
+        Line::Plain(Inst::ecall()),
+        Line::Plain(Inst::li(A7, PUT)),
+        Line::Plain(Inst::ecall()),
+        Line::Plain(Inst::ret()),
+        Line::Plain(Inst::li(A7, GET)),
+        Line::Plain(Inst::ecall()),
+        Line::Plain(Inst::ret()),
+    ]?;
     Ok(Words::from_vec(lines))
-}
-
-/// Asks for a service.
-fn call_host(lines: &mut Vec<Line>, service: i64) -> Result<(), AllocError>
-    ensures { IfOk result (λ _. lines.new.items ≡ lines.old.items ++ Plain (li a7 service) ∷ Plain ecall ∷ []) }
-{
-    lines.push(Line::Plain(Inst::li(A7, service)))?;
-    lines.push(Line::Plain(Inst::ecall()))?;
-    Ok(())
 }
 
 fn symbols(alloc: Global) -> Result<Symbols, AllocError>
     ensures { IfOk result (λ symbols. symbols ≡ runtime_symbols) }
 {
-    let mut symbols = Vec::new(alloc);
-    symbols.push(entry(alloc, b"_start", 0)?)?;
-    symbols.push(entry(alloc, b"__host_put", 24)?)?;
-    symbols.push(entry(alloc, b"__host_get", 36)?)?;
-    Ok(Symbols::from_vec(symbols))
+    let start = entry(alloc, b"_start", 0)?;
+    let put = entry(alloc, b"__host_put", 24)?;
+    let get = entry(alloc, b"__host_get", 36)?;
+    Ok(Symbols::from_vec(vec![in alloc; start, put, get]?))
+}
+
+fn needs(alloc: Global) -> Result<Needs, AllocError>
+    ensures { IfOk result (λ needs. needs ≡ codes "main" ∷ []) }
+{
+    let main = symbol_name(alloc, b"main")?;
+    Ok(Needs::from_vec(vec![in alloc; main]?))
 }
 
 /// A global symbol at this distance from the beginning.

@@ -8,9 +8,11 @@ ghost use Rattle.rv_isa.specs.Relocation.{IsLine, AreLines};
 ghost use Rattle.obj_link.specs.Layout.{low_64, image_size, globals as all_globals};
 ghost use Rattle.obj_link.specs.Words.{low_part, high_part, own_address, global_address, address_of, moved, line_word, words_at, image_bytes};
 
+use crate::begins::Begins;
 use crate::image::SymbolAddress;
 use crate::inputs::Inputs;
 use crate::layout::{IMAGE_BEGIN, symbol_place, text_size};
+use crate::names::own_symbol;
 use asm_read::ObjectSymbol;
 use rv_isa::{Inst, Line, encode};
 use std::alloc::{AllocError, Global};
@@ -18,8 +20,8 @@ use std::alloc::{AllocError, Global};
 /// Where the names of an object's lines are looked up.
 #[derive(Clone, Copy)]
 struct Scope<'a> {
-    /// Where the object's text begins.
-    begin: u64,
+    /// Where the object's sections begin.
+    begins: Begins,
     /// The object's own symbols.
     symbols: &'a [ObjectSymbol],
     /// The global symbols of all objects.
@@ -37,16 +39,16 @@ pub fn bytes_of_image(
     ensures { IfOk result (λ bytes. bytes.items ≡ image_bytes inputs.now) }
 {
     let mut bytes = Vec::new(alloc);
-    let mut begin = IMAGE_BEGIN;
+    let mut text = IMAGE_BEGIN;
     for index in 0..inputs.len() {
         let object = inputs.get(index);
         let scope = Scope {
-            begin,
+            begins: Begins { text },
             symbols: object.symbols.as_slice(),
             globals,
         };
         push_lines(&mut bytes, object.words.as_slice(), scope)?;
-        begin += text_size(object);
+        text += text_size(object);
     }
     Ok(bytes)
 }
@@ -56,7 +58,7 @@ fn push_lines(bytes: &mut Vec<u8>, lines: &[Line], scope: Scope<'_>) -> Result<(
     requires { AreLines lines.now }
     ensures { OnOk result (bytes.new.items ≡ bytes.old.items
         ++ flat_map (to_le_bytes w32)
-        (words_at scope.entry.begin scope.entry.symbols.now scope.entry.globals.now lines.now)) }
+        (words_at scope.entry.begins scope.entry.symbols.now scope.entry.globals.now lines.now)) }
 {
     for line in lines {
         bytes.extend_from_slice(&word_of_line(line, scope).to_le_bytes())?;
@@ -68,7 +70,7 @@ fn push_lines(bytes: &mut Vec<u8>, lines: &[Line], scope: Scope<'_>) -> Result<(
 fn word_of_line(line: &Line, scope: Scope<'_>) -> u32
     requires { IsLine line.now }
     ensures { result ≡ line_word
-        (address_of scope.entry.begin scope.entry.symbols.now scope.entry.globals.now)
+        (address_of scope.entry.begins scope.entry.symbols.now scope.entry.globals.now)
         line.now }
 {
     match line {
@@ -128,21 +130,15 @@ fn upper_part(address: u64) -> i64
 /// The address that a name stands for.
 fn address(scope: Scope<'_>, name: &[u8]) -> u64
     ensures { result
-        ≡ address_of scope.entry.begin scope.entry.symbols.now scope.entry.globals.now name.now }
+        ≡ address_of scope.entry.begins scope.entry.symbols.now scope.entry.globals.now name.now }
 {
     match own_symbol(scope.symbols, name) {
-        Some(symbol) => symbol_place(scope.begin, symbol),
+        Some(symbol) => symbol_place(scope.begins, symbol),
         None => match global_symbol(scope.globals, name) {
             Some(symbol) => symbol.address,
             None => 0,
         },
     }
-}
-
-fn own_symbol<'a>(symbols: &'a [ObjectSymbol], name: &[u8]) -> Option<&'a ObjectSymbol>
-    ensures { option_copied result ≡ find (λ s. bytes_eq s.name name.now) symbols.now }
-{
-    symbols.iter().find(|symbol| symbol.name.as_bytes() == name)
 }
 
 fn global_symbol<'a>(globals: &'a [SymbolAddress], name: &[u8]) -> Option<&'a SymbolAddress>

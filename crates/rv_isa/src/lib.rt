@@ -11,6 +11,6 @@ mod symbol;
 
 pub use encoding::{decode, decoding_is_undone, encode, encoding_is_undone, words_fit};
 pub use inst::{Inst, Line, Op};
-pub use register::{A0, A1, A7, RA, T0, T1, ZERO, register_name};
+pub use register::{A0, A1, A7, RA, SP, T0, T1, ZERO, register_name};
 pub use statement::Statement;
 pub use symbol::SymName;

@@ -8,6 +8,9 @@ pub const ZERO: u8 = 0;
 /// The return address.
 pub const RA: u8 = 1;
 
+/// The stack pointer.
+pub const SP: u8 = 2;
+
 /// The first temporary.
 pub const T0: u8 = 5;
 

@@ -1,5 +1,12 @@
 pub mod Runs
+pub mod OnTheWay
 pub mod Registers
+pub mod Lookups
 pub mod Steps
-pub mod ImageWords
+pub mod Keeping
+pub mod Fetching
+pub mod CodeParts
+pub mod Straight
+pub mod PlainCode
+pub mod Places
 pub mod Puts

@@ -12,6 +12,7 @@ use Rattle.rv_mach.specs.State.{State, Run, registers_with, register, start}
 use Rattle.rv_isa.specs.Registers.{a0, a7}
 use Rattle.rv_mach.specs.Step.{Effect, falls, jumps, puts, stops, act_by, called, put, get, exit, with_input, executed, instruction, settled, step_by}
 use Rattle.rv_mach.specs.Run.{run_of}
+use Rattle.rv_mach.specs.Code.{after_code}
 
 IsRegisterFile-with : (r value : ℕ) (registers : List ℕ) → IsRegisterFile registers
     → IsRegisterFile (registers_with r value registers)
@@ -73,6 +74,13 @@ step_by-file Running input r file =
 step_by-file (Exited code) input r file = file
 step_by-file (Trapped kind) input r file = file
 step_by-file StackOut input r file = file
+
+pub after_code-file : (input : List ℕ) (code : List Inst) (r : Run) → IsRegisterFile r.machine.registers
+    → IsRegisterFile (after_code input code r).machine.registers
+after_code-file input [] r file = file
+after_code-file input (i ∷ code) r file =
+    after_code-file input code (settled (act_by i.op input i r.machine) r.output)
+    (settled-file (act_by i.op input i r.machine) r.output (act_by-file i.op input i r.machine file))
 
 pub run_of-file : (input : List ℕ) (n : ℕ) (m : State) → IsRegisterFile m.registers
     → IsRegisterFile (run_of input n m).machine.registers

@@ -20,7 +20,7 @@ run_of-suc input n m = refl
 
 -- ---- what was put before changes nothing
 
-settled-prefixed : (e : Effect) (front output : List ℕ) → settled e (front ++ output) ≡ prefixed front (settled e output)
+pub settled-prefixed : (e : Effect) (front output : List ℕ) → settled e (front ++ output) ≡ prefixed front (settled e output)
 settled-prefixed (falls m) front output = refl
 settled-prefixed (jumps address m) front output = refl
 settled-prefixed (puts byte m) front output =
@@ -38,7 +38,7 @@ step_by-prefixed StackOut input front r = refl
 pub step-prefixed : (input front : List ℕ) (r : Run) → step input (prefixed front r) ≡ prefixed front (step input r)
 step-prefixed input front r = step_by-prefixed r.machine.stop input front r
 
-prefixed-fresh : (r : Run) → r ≡ prefixed r.output (fresh r.machine)
+pub prefixed-fresh : (r : Run) → r ≡ prefixed r.output (fresh r.machine)
 prefixed-fresh r =
     let with_output : List ℕ → Run = λ bytes. record { machine = r.machine; output = bytes } in
     ap with_output (sym (append-nil r.output))

@@ -4,3 +4,4 @@ pub mod Registers
 pub mod Step
 pub mod Effects
 pub mod Run
+pub mod Code

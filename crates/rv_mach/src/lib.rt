@@ -10,6 +10,9 @@ mod machine;
 mod memory;
 mod stop;
 
-pub use laws::{registers_stay_whole, runs_join, stopped_machine_stays};
+pub use laws::{
+    images_stay, places_are_few, registers_are_set, registers_stay_whole, runs_join,
+    runs_show_their_way, stopped_machine_stays, straight_code_runs, words_are_code,
+};
 pub use machine::Machine;
 pub use stop::{Stop, TrapKind};

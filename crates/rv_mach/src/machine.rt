@@ -14,16 +14,9 @@ use crate::memory::{IMAGE_START, STACK_BYTES, STACK_END, STACK_START, fetch};
 use crate::stop::{Stop, TrapKind};
 use cg_io::{NoMemory, Sink, WriteFault, write_all};
 use obj_link::Image;
-use rv_isa::{Inst, Op, decode};
+use rv_isa::{A0, A7, Inst, Op, SP, decode};
 use std::alloc::Global;
 use std::marker::Model;
-
-// Registers by their names in the calling convention.
-const SP: usize = 2;
-
-const A0: usize = 10;
-
-const A7: usize = 17;
 
 // The calls of the environment, by their numbers in `a7`.
 const PUT: u64 = 1;
@@ -64,7 +57,7 @@ impl Machine {
         ensures { IfOk result (λ m. m ≡ start image.now.bytes) }
     {
         let mut registers = [0; 32];
-        registers[SP] = STACK_END;
+        registers[SP as usize] = STACK_END;
         Ok(Machine {
             pc: IMAGE_START,
             registers,
@@ -171,7 +164,7 @@ impl Machine {
         ensures value { result ≡ instruction self.now }
         ensures on_table { IfOk result IsInst }
     {
-        if self.registers[SP] < STACK_START {
+        if self.registers[SP as usize] < STACK_START {
             return Err(Stop::StackOut);
         }
         match fetch(self.image.as_slice(), self.pc) {
@@ -220,11 +213,11 @@ impl Machine {
         ensures unchanged { IsPut result → self.new ≡ self.old }
         ensures put { IsPut result → register a7 self.old ≡ put }
     {
-        let argument = self.registers[A0];
-        match self.registers[A7] {
+        let argument = self.registers[A0 as usize];
+        match self.registers[A7 as usize] {
             PUT => Effect::Put((argument % 0x100) as u8),
             GET => {
-                self.registers[A0] = match input.get(self.taken) {
+                self.registers[A0 as usize] = match input.get(self.taken) {
                     Some(byte) => {
                         self.taken += 1;
                         u64::from(*byte)

@@ -1,10 +1,15 @@
-use Rattle.std.proofs.Common.{◌≡◌, ap, ◌∙◌, arith, take, map}
+use Rattle.std.proofs.Common.{◌≡◌, ℕ, ap, ◌∙◌, arith, take, map}
 use Rattle.obj_link.specs.Layout.{size_of, addresses_of, addressed}
+use Rattle.obj_link.specs.declared.begins.Begins.{Begins}
 use Rattle.obj_link.proofs.Placing.{sum_at, sum_at_le, map_at}
 use Rattle.obj_link.proofs.layout.all_addresses.Goals as goal
 
-pub overflow_add-begin : goal.overflow_add-begin
-overflow_add-begin c =
+-- the sections of an object whose text begins here
+abbrev at : ℕ → Begins
+at text = record { text = text }
+
+pub overflow_add-text : goal.overflow_add-text
+overflow_add-text c =
     let within = sum_at_le size_of c.args.inputs.now c.loop-index.index c.get-object.result.now c.get-object.ensures in
     omega arith
 
@@ -12,12 +17,12 @@ pub loop-index-preserved : goal.loop-index-preserved
 loop-index-preserved c =
     let within = sum_at_le size_of c.args.inputs.now c.loop-index.index c.get-object.result.now c.get-object.ensures in
     let step = sum_at size_of c.args.inputs.now c.loop-index.index c.get-object.result.now c.get-object.ensures in
-    let here : c.in_ok-addresses_of.field-0 ≡ addresses_of (take c.loop-index.index c.args.inputs.now) c.get-object.result.now =
+    let here : c.in_ok-addresses_of.field-0 ≡ addresses_of c.args.inputs.now (take c.loop-index.index c.args.inputs.now) c.get-object.result.now =
     c.in_ok-addresses_of.ensures
-    ∙ ap (map (addressed c.loop-index.begin)) c.as_slice.ensures
-    ∙ ap (λ begin. map (addressed begin) c.get-object.result.now.symbols) c.loop-index.invariant.begins
+    ∙ ap (map (addressed (at c.loop-index.text))) c.as_slice.ensures
+    ∙ ap (λ text. map (addressed (at text)) c.get-object.result.now.symbols) c.loop-index.invariant.begins
     in
     record {
       begins = omega arith;
-      whole = map_at (λ p. addresses_of p.0 p.1) _ _ c.args.inputs.now c.loop-index.index _ _ _ c.get-object.ensures c.loop-index.invariant.whole c.in_ok-push.ensures.items here;
+      whole = map_at (λ p. addresses_of c.args.inputs.now p.0 p.1) _ _ c.args.inputs.now c.loop-index.index _ _ _ c.get-object.ensures c.loop-index.invariant.whole c.in_ok-push.ensures.items here;
     }

@@ -13,5 +13,5 @@ pub returns : goal.returns
 returns c =
     let size = image_size-instructions c.args.inputs.now in
     let count : c.args.size / 4 ≡ instruction_count c.args.inputs.now = omega arith in
-    ap (λ bytes. image_with bytes (c.args.size / 4) c.in_ok-all_addresses.field-0) (c.from_vec.ensures ∙ c.in_ok-bytes.ensures)
-    ∙ ap₂ (image_with (image_bytes c.args.inputs.now)) count c.in_ok-all_addresses.ensures
+    ap (λ bytes. image_with bytes (c.args.size / 4) c.in_ok-addresses.addresses) (c.from_vec.ensures ∙ c.in_ok-linked_bytes.ensures)
+    ∙ ap₂ (image_with (image_bytes c.args.inputs.now)) count c.in_ok-addresses.ensures
