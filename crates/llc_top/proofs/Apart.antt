@@ -20,6 +20,7 @@ use Rattle.ir_syntax.specs.declared.module.Module.{Module}
 use Rattle.ir_syntax.specs.declared.refusal.Refusal.{Refusal}
 use Rattle.obj_link.specs.declared.image.Image.{Image}
 use Rattle.llc_top.specs.Exact.{IsExact, Serves, Compiled, Ran}
+use Rattle.llc_top.specs.Headline.{Does, Headline}
 use Rattle.cg_built.specs.Main.{defines_main, has_main, is_main, fits_main}
 use Rattle.llc_top.specs.Outcome.{Outcome, words_refused, read_failed, refuses, compiles, runs, status_of, out_due, err_due, HasReason, Answers, TakesModule, TakesProgram, TakesRefused}
 use Rattle.llc_top.specs.Refusals.{IsAccepted, IsFirstRefusal, IsModuleRefusal, IsRunRefusal, text_limit}
@@ -133,7 +134,7 @@ module _ (words : List (List ℕ)) (src : SourceChange) (out err : SinkChange) w
       (takes.has_a_main, image, takes.linked)) refused
 
   -- an answer is exact
-  pub answer_exact : (status : Status) → Answers (HasReason words src) status out err → IsExact words src.old_left status
+  answer_exact : (status : Status) → Answers (HasReason words src) status out err → IsExact words src.old_left status
   answer_exact status answer = record {
     accepted = λ command bytes m asked told accepted serves is.
         let at = subst (λ s. Answers (HasReason words src) s out err) is answer in
@@ -192,16 +193,25 @@ module _ (words : List (List ℕ)) (src : SourceChange) (out err : SinkChange) w
         shown_by image takes (subst (λ c. TellsAll (out_due (runs c image)) out) same results)
         (subst (λ c. TellsAll (err_due (runs c image)) err) same errors)
 
-    -- what was written resolves, and its image shows what the module allows
-    pub answer_compiled : (status : Status) → Answers (HasReason words src) status out err → status ≡ statuses.Done →
-        command.mode ≡ modes.Compile → Compiled src.old_left src.left out.old_written out.written
-    answer_compiled status answer is compiling =
-        let at = subst (λ s. Answers (HasReason words src) s out err) is answer in
-        compiled_by at.0 compiling at.1 at.2 at.3.results
+  -- what was written resolves, and its image shows what the module allows
+  answer_compiled : (status : Status) → Answers (HasReason words src) status out err → (command : Command) → Does words status modes.Compile command →
+      Compiled src.old_left src.left out.old_written out.written
+  answer_compiled status answer command (is, asked, compiling) =
+      let at = subst (λ s. Answers (HasReason words src) s out err) is answer in
+      compiled_by command asked at.0 compiling at.1 at.2 at.3.results
 
-    -- what was shown is what the module allows
-    pub answer_ran : (status : Status) → Answers (HasReason words src) status out err → status ≡ statuses.Done →
-        command.mode ≡ modes.Run → Ran command src.old_left src.left out.old_written out.written err.old_written err.written
-    answer_ran status answer is running =
-        let at = subst (λ s. Answers (HasReason words src) s out err) is answer in
-        ran_by at.0 running at.1 at.2 at.3.results at.3.errors
+  -- what was shown is what the module allows
+  answer_ran : (status : Status) → Answers (HasReason words src) status out err → (command : Command) → Does words status modes.Run command →
+      Ran command src.old_left src.left out.old_written out.written err.old_written err.written
+  answer_ran status answer command (is, asked, running) =
+      let at = subst (λ s. Answers (HasReason words src) s out err) is answer in
+      ran_by command asked at.0 running at.1 at.2 at.3.results at.3.errors
+
+  -- all that the headline says follows from the answer
+  pub answer_headline : (status : Status) → Answers (HasReason words src) status out err → Headline words status src out err
+  answer_headline status answer = record {
+    answer = answer;
+    exact = answer_exact status answer;
+    compiled = answer_compiled status answer;
+    ran = answer_ran status answer;
+  }

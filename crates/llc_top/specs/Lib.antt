@@ -1,4 +1,5 @@
 pub mod Exact
+pub mod Headline
 pub mod Numbers
 pub mod Outcome
 pub mod Partial

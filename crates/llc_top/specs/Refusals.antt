@@ -1,6 +1,6 @@
 -- Which texts are accepted, and the first refusal of any other: one predicate for each layer.
-use Rattle.std.specs.Prelude.{◌≡◌, ◌≢◌, ◌<◌, ◌≤◌, ◌+◌, ◌⊎◌, ℕ, true, false, Some, None, List, [], ◌∷◌, length}
-use Rattle.cg_built.specs.Unbuilt.{first_unbuilt}
+use Rattle.std.specs.Prelude.{◌≡◌, ◌≢◌, ◌<◌, ◌≤◌, ◌+◌, ◌⊎◌, ℕ, true, false, Some, List, [], ◌∷◌, length}
+use Rattle.cg_built.specs.Unbuilt.{IsBuilt, first_unbuilt}
 use Rattle.cg_part.specs.Linking.{AreUnlinked}
 use Rattle.cg_part.specs.Text.{part_text}
 use Rattle.ir_read.specs.Modules as reading
@@ -22,7 +22,7 @@ text_limit = 16777216
 pub record IsAccepted (bytes : List ℕ) (m : Module) : Type 0 where
   pub short : length bytes ≤ text_limit
   pub reads : Reads bytes m
-  pub built : first_unbuilt m ≡ None
+  pub built : IsBuilt m
 
 -- it is too long, and one byte more than the limit was read
 abbrev pub IsTooLong : List ℕ → Refusal → Type 0
@@ -54,7 +54,7 @@ IsRunRefusal m e = IsMainRefusal m e ⊎ ((has_main m ≡ true) × IsLinkRefusal
 
 -- a module is refused in a mode: something is not built, or else it is to be run and can't be
 abbrev pub IsModuleRefusal : Mode → Module → Refusal → Type 0
-IsModuleRefusal mode m e = IsNotBuilt m e ⊎ ((first_unbuilt m ≡ None) × (mode ≡ modes.Run) × IsRunRefusal m e)
+IsModuleRefusal mode m e = IsNotBuilt m e ⊎ (IsBuilt m × (mode ≡ modes.Run) × IsRunRefusal m e)
 
 -- a text that is not too long is refused: it is not read, or else for its module
 abbrev pub IsTextRefusal : Mode → List ℕ → Refusal → Type 0

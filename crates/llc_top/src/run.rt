@@ -1,13 +1,12 @@
 //! The top call.
-ghost use Rattle.std.specs.Prelude.{◌≡◌, ◌⊎◌, ◌+◌, Some, None, map, string_bytes};
+ghost use Rattle.std.specs.Prelude.{◌≡◌, ◌⊎◌, ◌+◌, None, map, string_bytes};
 ghost use Rattle.cg_io.specs.Faults.{Rose};
 ghost use Rattle.cg_io.specs.Told.{TakesAtMost};
-ghost use Rattle.llc_top.specs.Exact.{IsExact, Compiled, Ran};
+ghost use Rattle.llc_top.specs.Headline.{Headline};
 ghost use Rattle.llc_top.specs.Outcome.{Answers, HasReason};
 ghost use Rattle.llc_top.specs.Refusals.{text_limit};
 ghost use Rattle.llc_top.specs.Streams.{source_change, sink_change};
-ghost use Rattle.llc_words.specs.Commands.{Command, command_of};
-ghost use Rattle.llc_words.specs.declared.types.Mode.TheVariants.{Compile, Run};
+ghost use Rattle.llc_words.specs.Commands.{command_of};
 
 use crate::answer::{answer_line, answer_refusal};
 use crate::serve::serve_text;
@@ -33,49 +32,28 @@ pub fn run_llc<S: Source, O: Sink, E: Sink>(
     out: &mut O,
     err: &mut E,
 ) -> Status
-    // What came of it, why, and what the sinks got. After a write fault that is a proper prefix of what was due,
-    // and the sink whose write failed is the last that was written to.
-    ensures answer { Answers
-        (HasReason (map (λ word. string_bytes word) words.now) (source_change S.left S.faults src.old src.new))
-        result (sink_change O.written O.faults out.old out.new) (sink_change E.written E.faults err.old err.new) }
+    // What came of it, why, what was written, and that this is what the module's meaning allows.
+    ensures headline { Headline (map (λ word. string_bytes word) words.now) result
+        (source_change S.left S.faults src.old src.new)
+        (sink_change O.written O.faults out.old out.new) (sink_change E.written E.faults err.old err.new) }
 
-    // Of a source that tells its bytes, an accepted text is never refused, and one with a first
-    // refusal never done.
-    ensures exact { IsExact (map (λ word. string_bytes word) words.now) (S.left src.old) result }
-
-    // With other words nothing is read, and the answer is `Words` unless memory runs out or that can't be told.
-    ensures words { command_of (map (λ word. string_bytes word) words.now) ≡ None →
-        (result ≡ Status.Words) ⊎ (result ≡ Status.NoMemory) ⊎ (result ≡ Status.WriteFault) }
+    // With other words nothing is read, and never more than one byte beyond what a module may have. Nothing but a
+    // module that is compiled or run comes to `out`. Where memory runs out no read had failed.
     ensures unread { command_of (map (λ word. string_bytes word) words.now) ≡ None → src.new ≡ src.old }
-
-    // Faults come only from the streams.
-    ensures read_fault { result ≡ Status.ReadFault → Rose (S.faults src.old) (S.faults src.new) }
-    ensures write_fault { result ≡ Status.WriteFault →
-        Rose (O.faults out.old) (O.faults out.new) ⊎ Rose (E.faults err.old) (E.faults err.new) }
-
-    // A read or a write that fails ends the run, and no other outcome comes with one.
-    ensures kept_src { (result ≡ Status.ReadFault) ⊎ (result ≡ Status.WriteFault) ⊎
-        (S.faults src.new ≡ S.faults src.old) }
-    ensures kept_out { (result ≡ Status.WriteFault) ⊎ (O.faults out.new ≡ O.faults out.old) }
-    ensures kept_err { (result ≡ Status.WriteFault) ⊎ (E.faults err.new ≡ E.faults err.old) }
-
-    // Nothing beyond one byte more than a module may have is read, and only a module that is compiled or
-    // run comes to `out`.
     ensures most { TakesAtMost (text_limit + 1) (S.left src.old) (S.left src.new) }
     ensures untouched { (result ≡ Status.Done) ⊎ (result ≡ Status.NoMemory) ⊎ (result ≡ Status.WriteFault) ⊎
         (out.new ≡ out.old) }
+    ensures kept_src { (result ≡ Status.ReadFault) ⊎ (result ≡ Status.WriteFault) ⊎
+        (S.faults src.new ≡ S.faults src.old) }
 
-    // In the text that was written each symbol of the module stands once and none is missing; and its
-    // linked image, on any input and for any number of steps, shows what the module's meaning allows.
-    ensures compiled { result ≡ Status.Done → (command : Command) →
-        command_of (map (λ word. string_bytes word) words.now) ≡ Some command → command.mode ≡ Compile →
-        Compiled (S.left src.old) (S.left src.new) (O.written out.old) (O.written out.new) }
-
-    // What the machine showed is what the module's meaning allows, and how it ended is told.
-    ensures ran { result ≡ Status.Done → (command : Command) →
-        command_of (map (λ word. string_bytes word) words.now) ≡ Some command → command.mode ≡ Run →
-        Ran command (S.left src.old) (S.left src.new) (O.written out.old) (O.written out.new)
-        (E.written err.old) (E.written err.new) }
+    // These follow from `headline`: which words are refused, and that faults come only from the streams.
+    ensures words { command_of (map (λ word. string_bytes word) words.now) ≡ None →
+        (result ≡ Status.Words) ⊎ (result ≡ Status.NoMemory) ⊎ (result ≡ Status.WriteFault) }
+    ensures read_fault { result ≡ Status.ReadFault → Rose (S.faults src.old) (S.faults src.new) }
+    ensures write_fault { result ≡ Status.WriteFault →
+        Rose (O.faults out.old) (O.faults out.new) ⊎ Rose (E.faults err.old) (E.faults err.new) }
+    ensures kept_out { (result ≡ Status.WriteFault) ⊎ (O.faults out.new ≡ O.faults out.old) }
+    ensures kept_err { (result ≡ Status.WriteFault) ⊎ (E.faults err.new ≡ E.faults err.old) }
 {
     run_command(alloc, words, src, out, err)
 }

@@ -1,32 +1,16 @@
 use Rattle.std.proofs.Common.{String, Global, map, string_bytes}
 use Rattle.llc_top.specs.Streams.{source_change, sink_change}
 use Rattle.llc_top.proofs.Answering.{answer-kept_err, answer-kept_out, answer-read_fault, answer-words, answer-write_fault}
-use Rattle.llc_top.proofs.Apart.{answer_compiled, answer_exact, answer_ran}
+use Rattle.llc_top.proofs.Apart.{answer_headline}
 use Rattle.llc_top.proofs.run.run_llc.Goals as goal
 
-pub returns-clause-exact : goal.returns-clause-exact
-returns-clause-exact g c =
-    answer_exact (map (λ (word : String Global). string_bytes word) c.args.words.now)
+pub returns-clause-headline : goal.returns-clause-headline
+returns-clause-headline g c =
+    answer_headline (map (λ (word : String Global). string_bytes word) c.args.words.now)
     (source_change g.S.Source.left g.S.Source.faults c.args.src.now c.run_command.new.src)
     (sink_change g.O.Sink.written g.O.Sink.faults c.args.out.now c.run_command.new.out)
     (sink_change g.E.Sink.written g.E.Sink.faults c.args.err.now c.run_command.new.err)
     c.run_command.result c.run_command.ensures.answer
-
-pub returns-clause-compiled : goal.returns-clause-compiled
-returns-clause-compiled g c done command asked mode =
-    answer_compiled (map (λ (word : String Global). string_bytes word) c.args.words.now)
-    (source_change g.S.Source.left g.S.Source.faults c.args.src.now c.run_command.new.src)
-    (sink_change g.O.Sink.written g.O.Sink.faults c.args.out.now c.run_command.new.out)
-    (sink_change g.E.Sink.written g.E.Sink.faults c.args.err.now c.run_command.new.err)
-    command asked c.run_command.result c.run_command.ensures.answer done mode
-
-pub returns-clause-ran : goal.returns-clause-ran
-returns-clause-ran g c done command asked mode =
-    answer_ran (map (λ (word : String Global). string_bytes word) c.args.words.now)
-    (source_change g.S.Source.left g.S.Source.faults c.args.src.now c.run_command.new.src)
-    (sink_change g.O.Sink.written g.O.Sink.faults c.args.out.now c.run_command.new.out)
-    (sink_change g.E.Sink.written g.E.Sink.faults c.args.err.now c.run_command.new.err)
-    command asked c.run_command.result c.run_command.ensures.answer done mode
 
 pub returns-clause-words : goal.returns-clause-words
 returns-clause-words g c =
