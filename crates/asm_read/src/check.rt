@@ -1,7 +1,6 @@
 //! The lines that are refused.
 ghost use Rattle.std.specs.Prelude.{◌≡◌, ◌<◌, ◌||◌, ℕ, List, true, false, not, length, IfOk, OnOk, MatchOption};
 ghost use Rattle.std.specs.List.{list_any};
-ghost use Rattle.std.specs.Str.{bytes_eq};
 ghost use Rattle.asm_read.specs.Assembly.{defines, exports, is_some_and};
 ghost use Rattle.asm_read.specs.Checks as checks;
 ghost use Rattle.asm_read.specs.Checks.{has, refuses, refuses_at};
@@ -20,30 +19,6 @@ fn opens(line: &Option<Statement>) -> bool
     matches!(line, Some(Statement::Text))
 }
 
-/// The name that a line defines.
-fn defined_name(line: &Option<Statement>) -> Option<&[u8]>
-    ensures { MatchOption result
-        ((q : List ℕ) → is_some_and (defines q) line.now ≡ false)
-        (λ name. (q : List ℕ) → is_some_and (defines q) line.now ≡ bytes_eq q name.now) }
-{
-    match line {
-        Some(Statement::Define(name)) => Some(name.as_bytes()),
-        _ => None,
-    }
-}
-
-/// The name that a line exports.
-fn exported_name(line: &Option<Statement>) -> Option<&[u8]>
-    ensures { MatchOption result
-        ((q : List ℕ) → is_some_and (exports q) line.now ≡ false)
-        (λ name. (q : List ℕ) → is_some_and (exports q) line.now ≡ bytes_eq q name.now) }
-{
-    match line {
-        Some(Statement::Global(name)) => Some(name.as_bytes()),
-        _ => None,
-    }
-}
-
 /// Adds the name that a line defines.
 fn add_defined<'a>(
     names: &mut HashSet<&'a [u8]>,
@@ -51,9 +26,9 @@ fn add_defined<'a>(
 ) -> Result<(), AllocError>
     ensures { OnOk result ((q : List ℕ) → has names.new q ≡ (is_some_and (defines q) line.now || has names.old q)) }
 {
-    match defined_name(line) {
-        Some(name) => add_name(names, name),
-        None => Ok(()),
+    match line {
+        Some(Statement::Define(name)) => add_name(names, name.as_bytes()),
+        _ => Ok(()),
     }
 }
 
@@ -64,9 +39,9 @@ fn add_exported<'a>(
 ) -> Result<(), AllocError>
     ensures { OnOk result ((q : List ℕ) → has names.new q ≡ (is_some_and (exports q) line.now || has names.old q)) }
 {
-    match exported_name(line) {
-        Some(name) => add_name(names, name),
-        None => Ok(()),
+    match line {
+        Some(Statement::Global(name)) => add_name(names, name.as_bytes()),
+        _ => Ok(()),
     }
 }
 

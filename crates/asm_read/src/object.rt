@@ -6,7 +6,7 @@ use rv_isa::{Line, SymName};
 use std::marker::Model;
 
 /// A section of an object.
-#[derive(Clone, Copy, Debug, PartialEq, Eq)]
+#[derive(Clone, Copy, PartialEq, Eq)]
 pub enum Section {
     /// Instructions.
     Text,

@@ -1,7 +1,7 @@
 //! Why a text is not assembled.
 
 /// Why a text is not assembled.
-#[derive(Clone, Copy, Debug, PartialEq, Eq)]
+#[derive(Clone, Copy)]
 pub enum AsmRefusal {
     /// The text is no assembly.
     Line {
