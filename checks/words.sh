@@ -1,5 +1,5 @@
 #!/bin/sh
-# The words that the tests of rv_isa name beside their assembly are those that GNU as for RISC-V gives, or
+# The words that the tests of the encoding name beside their assembly are those that GNU as for RISC-V gives, or
 # LLVM's assembler where that is what is here; and it takes the assembly of the examples. Where neither is
 # installed, nothing is checked.
 cd "$(dirname "$0")/.." || exit 1
@@ -22,7 +22,7 @@ else
   echo "words: no assembler for RISC-V is here, so nothing is checked"; exit 0
 fi
 
-sed -nE 's/.*decode\(0x([0-9a-f_]+)\), Some\(.*\), "([^"]+)"\).*/\1 \2/p' crates/rv_isa/src/*.rt > "$made/table"
+sed -nE 's/^ *\(0x([0-9a-f_]+), "([^"]+)", .*/\1 \2/p' crates/machine_tests/src/encoding.rt > "$made/table"
 sed -E 's/^[^ ]+ //' "$made/table" > "$made/code.s"
 sed -E 's/ .*//; s/_//g' "$made/table" > "$made/expected"
 [ -s "$made/table" ] || { echo "words: the tests name none"; exit 1; }

@@ -1,15 +1,15 @@
-//! Tests of the whole program over memory, and of what is not built. They stand apart from the crates
-//! that they call, since a crate with tests is proved twice.
+//! Tests of the whole program over memory, of the words of its command line, and of the texts and the images of
+//! modules. They stand apart from the crates that they call, since a crate with tests is proved twice.
 #![tactic(auto)]
 
-#[cfg(test)]
-mod building;
 #[cfg(test)]
 mod compiling;
 #[cfg(test)]
 mod limits;
 #[cfg(test)]
 mod memory;
+#[cfg(test)]
+mod programs;
 #[cfg(test)]
 mod refusals;
 #[cfg(test)]

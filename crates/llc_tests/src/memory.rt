@@ -6,6 +6,9 @@ use std::alloc::{AllocError, Global};
 /// A text, and what is told of it.
 pub(crate) type Row = (&'static str, &'static str);
 
+/// The words of a command line, the program's name first.
+pub(crate) type Words = &'static [&'static str];
+
 /// The words that ask for assembly.
 pub(crate) const COMPILE: &[&str] = &["llc", "compile"];
 
@@ -24,10 +27,11 @@ pub(crate) struct Outcome {
 }
 
 /// The words of a command line, as the program gets them.
-fn words_of(alloc: Global, words: &[&str]) -> Result<Vec<String>, AllocError> {
+pub(crate) fn words_of(alloc: Global, words: &[&str]) -> Result<Vec<String>, AllocError> {
     let mut owned = Vec::new(alloc);
     for word in words {
-        owned.push(String::from_str(alloc, word)?)?;
+        let word = String::from_str(alloc, word)?;
+        owned.push(word)?;
     }
     Ok(owned)
 }
@@ -43,15 +47,39 @@ fn sink_of(alloc: Global, fails: &[u64]) -> Result<MemSink, AllocError> {
     MemSink::new(alloc, 4096, fails.to_vec(alloc)?)
 }
 
-/// Runs the program.
-fn status_of(
+/// What a sink of the output and one of the errors are to get.
+type Wanted<'t> = (&'t [u8], &'t [u8]);
+
+/// Runs the program on these words and streams.
+fn outcome_on(
     alloc: Global,
     words: &[String],
     src: &mut MemSource,
     out: &mut MemSink,
     err: &mut MemSink,
-) -> Status {
-    run_llc(alloc, words, src, out, err)
+    wanted: Wanted<'_>,
+) -> Outcome {
+    let status = run_llc(alloc, words, src, out, err);
+    Outcome {
+        status,
+        is_put: out.bytes() == wanted.0,
+        is_told: err.bytes() == wanted.1,
+        count: out.bytes().len(),
+        faults: src.fault_count().saturating_add(out.fault_count()),
+    }
+}
+
+/// Runs the program on these words and this source, where these writes of the output fail.
+fn outcome_from(
+    alloc: Global,
+    words: &[String],
+    src: &mut MemSource,
+    fails: &[u64],
+    wanted: Wanted<'_>,
+) -> Result<Outcome, AllocError> {
+    let mut err = sink_of(alloc, &[])?;
+    let mut out = sink_of(alloc, fails)?;
+    Ok(outcome_on(alloc, words, src, &mut out, &mut err, wanted))
 }
 
 /// What the program does with these words and this text, where these reads of it and these writes of the output
@@ -61,20 +89,11 @@ pub(crate) fn outcome_of(
     words: &[&str],
     text: &[u8],
     fails: (&[u64], &[u64]),
-    wanted: (&[u8], &[u8]),
+    wanted: Wanted<'_>,
 ) -> Result<Outcome, AllocError> {
     let words = words_of(alloc, words)?;
     let mut src = source_of(alloc, text, fails.0)?;
-    let mut out = sink_of(alloc, fails.1)?;
-    let mut err = sink_of(alloc, &[])?;
-    let status = status_of(alloc, words.as_slice(), &mut src, &mut out, &mut err);
-    Ok(Outcome {
-        status,
-        is_put: out.bytes() == wanted.0,
-        is_told: err.bytes() == wanted.1,
-        count: out.bytes().len(),
-        faults: src.fault_count().saturating_add(out.fault_count()),
-    })
+    outcome_from(alloc, words.as_slice(), &mut src, fails.1, wanted)
 }
 
 /// Whether the program answers to these words and this text with this status, puts this and tells this.
@@ -83,7 +102,7 @@ pub(crate) fn answers(
     words: &[&str],
     text: &[u8],
     status: Status,
-    wanted: (&[u8], &[u8]),
+    wanted: Wanted<'_>,
 ) -> bool {
     match outcome_of(alloc, words, text, (&[], &[]), wanted) {
         Ok(outcome) => (outcome.status == status) & outcome.is_put & outcome.is_told,
@@ -91,30 +110,38 @@ pub(crate) fn answers(
     }
 }
 
-/// The first of these texts that these words do not compile to the assembly beside it.
-pub(crate) fn first_not_compiled(alloc: Global, rows: &[Row]) -> Option<&'static str> {
-    for (text, assembly) in rows {
-        let wanted = (assembly.as_bytes(), b"".as_slice());
-        if !answers(alloc, COMPILE, text.as_bytes(), Status::Done, wanted) {
-            return Some(*text);
-        }
-    }
-    None
-}
-
-/// The first of these texts to which the program does not answer with this status, or which does not let it tell
-/// just what stands beside the text.
-pub(crate) fn first_not_told(
+/// Whether the program answers to these words and this text with this status, puts nothing and tells this.
+pub(crate) fn tells(
     alloc: Global,
     words: &[&str],
+    text: &str,
     status: Status,
-    rows: &[Row],
-) -> Option<&'static str> {
-    for (text, told) in rows {
-        let wanted = (b"".as_slice(), told.as_bytes());
-        if !answers(alloc, words, text.as_bytes(), status, wanted) {
-            return Some(*text);
+    told: &'static str,
+) -> bool {
+    let wanted = (b"".as_slice(), told.as_bytes());
+    answers(alloc, words, text.as_bytes(), status, wanted)
+}
+
+/// The number of the first of these texts that these words do not compile to the assembly beside it, or 0.
+pub(crate) fn wrong_assembly(alloc: Global, rows: &[Row]) -> usize {
+    for at in 0..rows.len() {
+        let (text, assembly) = rows[at];
+        let wanted = (assembly.as_bytes(), b"".as_slice());
+        if !answers(alloc, COMPILE, text.as_bytes(), Status::Done, wanted) {
+            return at + 1;
         }
     }
-    None
+    0
+}
+
+/// The number of the first of these texts to which the program does not answer with this status, or which does not let
+/// it tell just what stands beside the text, or 0.
+pub(crate) fn wrong_answer(alloc: Global, words: &[&str], status: Status, rows: &[Row]) -> usize {
+    for at in 0..rows.len() {
+        let (text, told) = rows[at];
+        if !tells(alloc, words, text, status, told) {
+            return at + 1;
+        }
+    }
+    0
 }

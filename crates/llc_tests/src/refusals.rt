@@ -1,5 +1,5 @@
 //! Texts that are refused, and what is told of them.
-use crate::memory::{COMPILE, Row, answers, first_not_told};
+use crate::memory::{COMPILE, Row, answers, wrong_answer};
 use llc_top::Status;
 
 /// Texts that are not read.
@@ -42,8 +42,8 @@ const UNREAD: &[Row] = &[
 #[test]
 fn texts_that_are_not_read_are_refused_by_line(rt: HostRuntime) {
     assert_eq!(rt;
-        first_not_told(rt.alloc(), COMPILE, Status::Refused, UNREAD),
-        None
+        wrong_answer(rt.alloc(), COMPILE, Status::Refused, UNREAD),
+        0
     );
 }
 
@@ -101,6 +101,10 @@ const NOT_YET: &[Row] = &[
     ("declare i32 @__host_get(i32)\n", AT_1),
     ("@a = global i64 0\n", AT_1),
     ("@a = external global i64\n", AT_1),
+    (
+        "\n\n\n@a = external global ptr\n\n@b = external global ptr\n",
+        AT_4,
+    ),
     ("declare void @b()\n@a = alias void (), ptr @b\n", AT_2),
     (
         "define i64 @a() {\n  ret i64 0\n}\ndefine i64 @a() {\n  ret i64 0\n}\n",
@@ -121,7 +125,7 @@ const NOT_YET: &[Row] = &[
 #[test]
 fn the_first_line_that_is_not_built_is_named(rt: HostRuntime) {
     assert_eq!(rt;
-        first_not_told(rt.alloc(), COMPILE, Status::Refused, NOT_YET),
-        None
+        wrong_answer(rt.alloc(), COMPILE, Status::Refused, NOT_YET),
+        0
     );
 }

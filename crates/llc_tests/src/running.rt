@@ -1,6 +1,6 @@
 //! Modules that are run, and words that ask for it.
 use crate::compiling::ARGUMENT;
-use crate::memory::{Row, answers, first_not_told};
+use crate::memory::{Row, Words, tells, wrong_answer};
 use llc_top::Status;
 use std::alloc::Global;
 
@@ -37,18 +37,12 @@ const REFUSED: &[Row] = &[
 
 #[test]
 fn a_main_is_run_to_its_exit(rt: HostRuntime) {
-    assert_eq!(rt; first_not_told(rt.alloc(), RUN, Status::Done, ENDED), None);
-    assert_eq!(rt;
-        first_not_told(rt.alloc(), RUN, Status::Refused, REFUSED),
-        None
-    );
+    assert_eq!(rt; wrong_answer(rt.alloc(), RUN, Status::Done, ENDED), 0);
+    assert_eq!(rt; wrong_answer(rt.alloc(), RUN, Status::Refused, REFUSED), 0);
 }
 
 /// A `main` that takes nine steps.
 const SEVEN: &str = "define i32 @main() {\n  ret i32 -7\n}\n";
-
-/// Words of a command line.
-type Words = &'static [&'static str];
 
 /// Words that ask for a run of that `main`, and the line that tells how it ended.
 const STEPS: &[(Words, &str)] = &[
@@ -71,35 +65,27 @@ const UNKNOWN: &[(Words, &str)] = &[
     (&[], "llc: words\n"),
 ];
 
-/// The first of these words to which the program does not answer with this status, or which do not let it tell just
-/// what stands beside them.
-fn first_wrong(
-    alloc: Global,
-    text: &[u8],
-    status: Status,
-    rows: &[(Words, &'static str)],
-) -> Option<Words> {
-    for (words, told) in rows {
-        let wanted = (b"".as_slice(), told.as_bytes());
-        if !answers(alloc, words, text, status, wanted) {
-            return Some(*words);
+/// The number of the first of these words to which the program does not answer with this status, or which do not let it
+/// tell just what stands beside them, or 0.
+fn wrong_words(alloc: Global, text: &str, status: Status, rows: &[(Words, &'static str)]) -> usize {
+    for at in 0..rows.len() {
+        let (words, told) = rows[at];
+        if !tells(alloc, words, text, status, told) {
+            return at + 1;
         }
     }
-    None
+    0
 }
 
 #[test]
 fn a_run_takes_the_steps_that_the_words_ask_for(rt: HostRuntime) {
-    assert_eq!(rt;
-        first_wrong(rt.alloc(), SEVEN.as_bytes(), Status::Done, STEPS),
-        None
-    );
+    assert_eq!(rt; wrong_words(rt.alloc(), SEVEN, Status::Done, STEPS), 0);
 }
 
 #[test]
 fn other_words_are_refused(rt: HostRuntime) {
     assert_eq!(rt;
-        first_wrong(rt.alloc(), ARGUMENT.as_bytes(), Status::Words, UNKNOWN),
-        None
+        wrong_words(rt.alloc(), ARGUMENT, Status::Words, UNKNOWN),
+        0
     );
 }

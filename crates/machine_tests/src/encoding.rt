@@ -2,17 +2,17 @@
 use crate::code::{Code, RET, is_code};
 use rv_isa::{Inst, Op, decode, encode};
 
-/// Words that LLVM's assembler gives, and their instructions.
-const ENCODED: &[(u32, Code)] = &[
-    (0x0005_0293, (Op::Addi, 5, 10, 0)),
-    (0x0005_8313, (Op::Addi, 6, 11, 0)),
-    (0x0002_8513, (Op::Addi, 10, 5, 0)),
-    (0x0000_0513, (Op::Addi, 10, 0, 0)),
-    (0xff90_0293, (Op::Addi, 5, 0, -7)),
-    (0x0000_12b7, (Op::Lui, 5, 0, 1)),
-    (0x0000_8067, RET),
-    (0x0000_80e7, (Op::Jalr, 1, 1, 0)),
-    (0x0000_0073, (Op::Ecall, 0, 0, 0)),
+/// Words that LLVM's assembler gives, their assembly, and their instructions.
+const ENCODED: &[(u32, &str, Code)] = &[
+    (0x0005_0293, "addi t0, a0, 0", (Op::Addi, 5, 10, 0)),
+    (0x0005_8313, "mv t1, a1", (Op::Addi, 6, 11, 0)),
+    (0x0002_8513, "mv a0, t0", (Op::Addi, 10, 5, 0)),
+    (0x0000_0513, "li a0, 0", (Op::Addi, 10, 0, 0)),
+    (0xff90_0293, "li t0, -7", (Op::Addi, 5, 0, -7)),
+    (0x0000_12b7, "lui t0, 1", (Op::Lui, 5, 0, 1)),
+    (0x0000_8067, "ret", RET),
+    (0x0000_80e7, "jalr ra, 0(ra)", (Op::Jalr, 1, 1, 0)),
+    (0x0000_0073, "ecall", (Op::Ecall, 0, 0, 0)),
 ];
 
 /// Words that encode no instruction of the machine.
@@ -29,7 +29,7 @@ fn encodes(word: u32, code: Code) -> bool {
 /// The number of the first word that encodes another instruction than the one beside it, or 0.
 fn wrong_word() -> usize {
     for at in 0..ENCODED.len() {
-        if !encodes(ENCODED[at].0, ENCODED[at].1) {
+        if !encodes(ENCODED[at].0, ENCODED[at].2) {
             return at + 1;
         }
     }
