@@ -24,11 +24,7 @@ const COMPILED: &[Row] = &[
         "define i64 @a(i64 %x) {\n  ret i64 0\n}\n",
         "#--- part 0\n\t.text\n\t.globl\ta\n\t.p2align\t2\na:\n\tmv\tt0, a0\n\tli\ta0, 0\n\tret\n",
     ),
-];
-
-/// Texts of a module whose function `a` returns its second argument.
-const SECOND_ARGUMENTS: &[Row] = &[
-    (ARGUMENT, SECOND),
+    // What the grammar drops changes no assembly.
     (
         "define i64 @a(i64 noundef %x, i64 noundef %y) { ret i64 %y }",
         SECOND,
@@ -59,9 +55,4 @@ const SECOND_ARGUMENTS: &[Row] = &[
 #[test]
 fn modules_compile_to_their_assembly(rt: HostRuntime) {
     assert_eq!(rt; wrong_assembly(rt.alloc(), COMPILED), 0);
-}
-
-#[test]
-fn what_the_grammar_drops_changes_no_assembly(rt: HostRuntime) {
-    assert_eq!(rt; wrong_assembly(rt.alloc(), SECOND_ARGUMENTS), 0);
 }

@@ -1,5 +1,5 @@
-//! Tests of the whole program over memory, of the words of its command line, and of the texts and the images of
-//! modules. They stand apart from the crates that they call, since a crate with tests is proved twice.
+//! Tests of the whole program over memory, and of the texts and the images of modules. They stand apart from the crates
+//! that they call, since a crate with tests is proved twice.
 #![tactic(auto)]
 
 #[cfg(test)]
@@ -16,5 +16,3 @@ mod refusals;
 mod running;
 #[cfg(test)]
 mod streams;
-#[cfg(test)]
-mod words;

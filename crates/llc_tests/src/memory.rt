@@ -3,11 +3,8 @@ use cg_io::{MemSink, MemSource};
 use llc_top::{Status, run_llc};
 use std::alloc::{AllocError, Global};
 
-/// A text, and what is told of it.
+/// A text, and what comes of it: its assembly, or what is told.
 pub(crate) type Row = (&'static str, &'static str);
-
-/// The words of a command line, the program's name first.
-pub(crate) type Words = &'static [&'static str];
 
 /// The words that ask for assembly.
 pub(crate) const COMPILE: &[&str] = &["llc", "compile"];
@@ -27,7 +24,7 @@ pub(crate) struct Outcome {
 }
 
 /// The words of a command line, as the program gets them.
-pub(crate) fn words_of(alloc: Global, words: &[&str]) -> Result<Vec<String>, AllocError> {
+fn words_of(alloc: Global, words: &[&str]) -> Result<Vec<String>, AllocError> {
     let mut owned = Vec::new(alloc);
     for word in words {
         let word = String::from_str(alloc, word)?;
@@ -128,18 +125,6 @@ pub(crate) fn wrong_assembly(alloc: Global, rows: &[Row]) -> usize {
         let (text, assembly) = rows[at];
         let wanted = (assembly.as_bytes(), b"".as_slice());
         if !answers(alloc, COMPILE, text.as_bytes(), Status::Done, wanted) {
-            return at + 1;
-        }
-    }
-    0
-}
-
-/// The number of the first of these texts to which the program does not answer with this status, or which does not let
-/// it tell just what stands beside the text, or 0.
-pub(crate) fn wrong_answer(alloc: Global, words: &[&str], status: Status, rows: &[Row]) -> usize {
-    for at in 0..rows.len() {
-        let (text, told) = rows[at];
-        if !tells(alloc, words, text, status, told) {
             return at + 1;
         }
     }

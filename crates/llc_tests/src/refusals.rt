@@ -1,9 +1,20 @@
 //! Texts that are refused, and what is told of them.
-use crate::memory::{COMPILE, Row, answers, wrong_answer};
+use crate::memory::{COMPILE, Row, answers, tells};
 use llc_top::Status;
+use std::alloc::Global;
 
-/// Texts that are not read.
-const UNREAD: &[Row] = &[
+/// The first line is not built yet.
+const AT_1: &str = "llc: refused 18 NotYet 1\n";
+
+/// The second line is the first that is not built yet.
+const AT_2: &str = "llc: refused 18 NotYet 2\n";
+
+/// The fourth line is the first that is not built yet.
+const AT_4: &str = "llc: refused 18 NotYet 4\n";
+
+/// Texts, and what is told of them.
+const REFUSED: &[Row] = &[
+    // Not read.
     (
         "\x01define void @a(<4 x i32> %x) {\n",
         "llc: refused 2 Lex 1\n",
@@ -37,33 +48,7 @@ const UNREAD: &[Row] = &[
         "%4294967296 = type { i8 }\n%a = type { %4294967297 }\n",
         "llc: refused 5 Name 2\n",
     ),
-];
-
-#[test]
-fn texts_that_are_not_read_are_refused_by_line(rt: HostRuntime) {
-    assert_eq!(rt;
-        wrong_answer(rt.alloc(), COMPILE, Status::Refused, UNREAD),
-        0
-    );
-}
-
-#[test]
-fn other_bytes_than_text_are_refused(rt: HostRuntime) {
-    let told = (b"".as_slice(), b"llc: refused 2 Lex 1\n".as_slice());
-    assert!(rt; answers(rt.alloc(), COMPILE, b"\xff\xfe\n", Status::Refused, told));
-}
-
-/// The first line is not built yet.
-const AT_1: &str = "llc: refused 18 NotYet 1\n";
-
-/// The second line is the first that is not built yet.
-const AT_2: &str = "llc: refused 18 NotYet 2\n";
-
-/// The fourth line is the first that is not built yet.
-const AT_4: &str = "llc: refused 18 NotYet 4\n";
-
-/// Modules that are not built yet.
-const NOT_YET: &[Row] = &[
+    // Not built.
     ("define i64 @a() {\n  ret i64 2048\n}\n", AT_2),
     ("define i64 @a() {\n  ret i64 -2049\n}\n", AT_2),
     ("define i64 @a() {\n  ret i32 0\n}\n", AT_2),
@@ -122,10 +107,24 @@ const NOT_YET: &[Row] = &[
     ),
 ];
 
+/// The number of the first text that is not refused so, or 0.
+fn wrong_refusal(alloc: Global) -> usize {
+    for at in 0..REFUSED.len() {
+        let (text, told) = REFUSED[at];
+        if !tells(alloc, COMPILE, text, Status::Refused, told) {
+            return at + 1;
+        }
+    }
+    0
+}
+
 #[test]
-fn the_first_line_that_is_not_built_is_named(rt: HostRuntime) {
-    assert_eq!(rt;
-        wrong_answer(rt.alloc(), COMPILE, Status::Refused, NOT_YET),
-        0
-    );
+fn texts_are_refused_by_line(rt: HostRuntime) {
+    assert_eq!(rt; wrong_refusal(rt.alloc()), 0);
+}
+
+#[test]
+fn other_bytes_than_text_are_refused(rt: HostRuntime) {
+    let told = (b"".as_slice(), b"llc: refused 2 Lex 1\n".as_slice());
+    assert!(rt; answers(rt.alloc(), COMPILE, b"\xff\xfe\n", Status::Refused, told));
 }

@@ -1,4 +1,4 @@
-//! Tests of the streams, the assembler, the linker and the machine: worked reads, texts, links and runs, with values
+//! Tests of the encoding, the assembler, the linker and the machine: worked words, texts, links and runs, with values
 //! from outside. They stand apart from the crates that they call, since a crate with tests is proved twice.
 #![tactic(auto)]
 
@@ -12,5 +12,3 @@ mod encoding;
 mod linking;
 #[cfg(test)]
 mod running;
-#[cfg(test)]
-mod streams;
