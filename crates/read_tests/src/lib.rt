@@ -4,8 +4,6 @@
 #[cfg(test)]
 mod cuts;
 #[cfg(test)]
-mod parts;
-#[cfg(test)]
 mod places;
 #[cfg(test)]
 mod rows;

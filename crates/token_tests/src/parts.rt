@@ -290,9 +290,18 @@ fn is_read(alloc: Global, text: &[u8], wanted: Wanted) -> bool {
     }
 }
 
+/// The number of the first text that is read otherwise, or 0.
+fn wrong_text(alloc: Global) -> usize {
+    for at in 0..TEXTS.len() {
+        let (text, wanted) = TEXTS[at];
+        if !is_read(alloc, text.as_bytes(), wanted) {
+            return at + 1;
+        }
+    }
+    0
+}
+
 #[test]
 fn each_text_is_read(rt: HostRuntime) {
-    for (text, wanted) in TEXTS {
-        assert!(rt; is_read(rt.alloc(), text.as_bytes(), *wanted), "{text}");
-    }
+    assert_eq!(rt; wrong_text(rt.alloc()), 0);
 }
