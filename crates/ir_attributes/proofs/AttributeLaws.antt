@@ -2,11 +2,12 @@
 use Rattle.std.proofs.Common.{◌≡◌, ℕ, List, [], ◌∷◌, Some, None, refl}
 use Rattle.std.specs.Prelude.{Option, fold}
 use Rattle.ir_words.specs.declared.class.Class.TheVariants as class
+use Rattle.ir_rules.specs.Laws.{Lawful}
 use Rattle.ir_rules.specs.declared.bracket.Bracket.TheVariants.{Round}
 use Rattle.ir_rules.proofs.Balances.{enclosed_lawful}
 use Rattle.ir_rules.proofs.Chains.{each_lawful}
 use Rattle.ir_rules.proofs.Derived.{dropped_lawful, option_lawful}
-use Rattle.ir_rules.proofs.Laws.{Lawful, either_lawful, made_lawful, within_lawful}
+use Rattle.ir_rules.proofs.Laws.{either_lawful, made_lawful, within_lawful}
 use Rattle.ir_rules.proofs.Words.{before_law, means_law, word_law}
 use Rattle.ir_attributes.specs.Attributes.{alignment_of, alignments, an_attribute, attachment, attachment_list, attachments, attribute_forms, attribute_list, attributes, later, no_alignment, round_brackets}
 use Rattle.ir_types.proofs.TypeLaws.{literals_law}

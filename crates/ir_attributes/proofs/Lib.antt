@@ -1,1 +1,3 @@
 pub mod AttributeLaws
+pub mod IgnoredLaws
+pub mod ItemLaws

@@ -2,6 +2,7 @@
 -- Attributes" and "Attribute Groups").
 use Rattle.std.specs.Prelude.{ℕ, ◌^◌, ◌||◌, nat_lt, Option, Some, None, List, [], ◌∷◌, false, true, fold, if◌then◌else◌}
 use Rattle.ir_syntax.specs.declared.literal.Literal.{Literal}
+use Rattle.ir_words.specs.declared.class.Class.{Class}
 use Rattle.ir_words.specs.declared.class.Class.TheVariants.{Align, Attribute, Attr, Comma, Equal, Meta, OpenRound, Str}
 use Rattle.ir_rules.specs.Balance.{enclosed}
 use Rattle.ir_rules.specs.Leaves.{means}
@@ -31,8 +32,16 @@ attribute_forms =
     (either (made (λ (n : ℕ). Some n) alignments)
     (either (made no_alignment (Str ▷ option (Equal ▷ word Str))) (means Attr None)))
 
+-- the tokens that an attribute begins with
+abbrev pub attribute_firsts : List Class
+attribute_firsts = Attribute ∷ Align ∷ Str ∷ Attr ∷ []
+
+-- those that may go on behind attributes
+abbrev pub attribute_flast : List Class
+attribute_flast = OpenRound ∷ Equal ∷ attribute_firsts
+
 abbrev pub an_attribute : Rule (Option ℕ)
-an_attribute = within (Attribute ∷ Align ∷ Str ∷ Attr ∷ []) (OpenRound ∷ Equal ∷ []) false attribute_forms
+an_attribute = within attribute_firsts (OpenRound ∷ Equal ∷ []) false attribute_forms
 
 -- of several alignments the last one counts
 abbrev pub later : Option ℕ → Option ℕ → Option ℕ
@@ -44,7 +53,7 @@ unfoldable pub attribute_list : Rule (Option ℕ)
 attribute_list = made (λ (found : List (Option ℕ)). fold later None found) (each an_attribute)
 
 abbrev pub attributes : Rule (Option ℕ)
-attributes = within (Attribute ∷ Align ∷ Str ∷ Attr ∷ []) (OpenRound ∷ Equal ∷ Attribute ∷ Align ∷ Str ∷ Attr ∷ []) true attribute_list
+attributes = within attribute_firsts attribute_flast true attribute_list
 
 -- META META
 abbrev pub attachment : Rule (Unit {0})

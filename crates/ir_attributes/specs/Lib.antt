@@ -1,1 +1,3 @@
 pub mod Attributes
+pub mod Ignored
+pub mod Items

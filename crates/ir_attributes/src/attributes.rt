@@ -1,11 +1,13 @@
 //! Attributes and attached metadata (LangRef, "Parameter Attributes" and "Metadata").
-ghost use Rattle.std.specs.Prelude.{◌≡◌, [], ◌∷◌, None};
-ghost use Rattle.ir_attributes.specs.Attributes.{alignment_of, alignments, an_attribute, attachment, attachments, attributes, later, no_alignment, round_brackets};
+ghost use Rattle.std.specs.Prelude.{◌≡◌, None};
+ghost use Rattle.ir_attributes.specs.Attributes.{alignment_of, alignments, an_attribute, attachment, attachments, attribute_firsts, attributes, later, no_alignment, round_brackets};
 ghost use Rattle.ir_rules.specs.Reading.{Gives, GivesExactly};
 ghost use Rattle.ir_rules.specs.Rules.{has, made, option, word, ◌▷◌};
-ghost use Rattle.ir_words.specs.declared.class.Class.TheVariants.{Align, Attr, Attribute, Equal, Str};
+ghost use Rattle.ir_words.specs.declared.class.Class.TheVariants.{Attribute, Equal, Str};
 
-use ir_rules::{Bracket, End, skip_enclosed, word};
+use ir_rules::{
+    Bracket, Element, End, Fold, fold_each, skip_each_after_comma, skip_enclosed, word,
+};
 use ir_syntax::Literal;
 use ir_types::read_literal;
 use ir_words::{Class, Cursor};
@@ -47,20 +49,36 @@ pub fn read_attachment<'t>(rest: Cursor<'t>) -> Result<Cursor<'t>, End>
     word(rest, Class::Meta)
 }
 
+/// The reader of one attachment: two metadata names.
+#[derive(Drop)]
+pub struct AttachmentReader;
+
+impl Element for AttachmentReader {
+    type Tree = ();
+
+    ghost rule = { λ _. attachment };
+
+    ghost takes_memory = { ⊥ };
+
+    fn begins(&self, class: Class) -> bool {
+        class == Class::Meta
+    }
+
+    fn read<'t>(&self, rest: Cursor<'t>) -> Result<((), Cursor<'t>), End> {
+        Ok(((), read_attachment(rest)?))
+    }
+}
+
 /// Reads attached metadata, each after a comma.
 ///
 /// # Errors
 ///
 /// `Bad` at the first token that can't stand there.
-#[tactic(auto, unfolding(crate::specs::Attributes::attachment_list))]
+#[tactic(auto, using(crate::proofs::AttributeLaws::attachment_law), unfolding(crate::specs::Attributes::attachment_list))]
 pub fn skip_attachments<'t>(rest: Cursor<'t>) -> Result<Cursor<'t>, End>
     ensures { GivesExactly (λ rest. (tt, rest)) result (attachments.read rest.entry) }
 {
-    let mut rest = rest;
-    while rest.first() == Class::Comma {
-        rest = read_attachment(rest.skip())?;
-    }
-    Ok(rest)
+    skip_each_after_comma(&AttachmentReader, rest)
 }
 
 /// Reads `(`, all up to the `)` that closes it, and that one.
@@ -116,16 +134,6 @@ pub fn read_attribute<'t>(alloc: Global, rest: Cursor<'t>) -> Result<(Option<u64
     }
 }
 
-/// Whether a token of a class begins an attribute.
-fn begins_attribute(class: Class) -> bool
-    ensures { result ≡ has (Attribute ∷ Align ∷ Str ∷ Attr ∷ []) class }
-{
-    matches!(
-        class,
-        Class::Attribute | Class::Align | Class::Str | Class::Attr
-    )
-}
-
 /// The alignment after one more attribute: the last one counts.
 pub fn later(before: Option<u64>, found: Option<u64>) -> Option<u64>
     ensures { result ≡ later before found }
@@ -133,24 +141,59 @@ pub fn later(before: Option<u64>, found: Option<u64>) -> Option<u64>
     found.or(before)
 }
 
+/// Whether a token of a class begins an attribute.
+pub fn begins_attribute(class: Class) -> bool
+    ensures { result ≡ has attribute_firsts class }
+{
+    matches!(
+        class,
+        Class::Attribute | Class::Align | Class::Str | Class::Attr
+    )
+}
+
+/// The reader of one attribute.
+#[derive(Drop)]
+struct AttributeReader {
+    alloc: Global,
+}
+
+impl Element for AttributeReader {
+    type Tree = Option<u64>;
+
+    ghost rule = { λ _. an_attribute };
+
+    ghost takes_memory = { Unit {0} };
+
+    fn begins(&self, class: Class) -> bool {
+        begins_attribute(class)
+    }
+
+    fn read<'t>(&self, rest: Cursor<'t>) -> Result<(Option<u64>, Cursor<'t>), End> {
+        read_attribute(self.alloc, rest)
+    }
+}
+
+impl Fold for AttributeReader {
+    type All = Option<u64>;
+
+    ghost next = { later };
+
+    fn next(&self, all: Option<u64>, tree: Option<u64>) -> Option<u64> {
+        later(all, tree)
+    }
+}
+
 /// Reads attributes; of several alignments the last one counts.
 ///
 /// # Errors
 ///
 /// `Bad` at the first token that can't stand there, `NoMemory` if memory runs out.
-#[tactic(auto, unfolding(crate::specs::Attributes::attribute_list))]
+#[tactic(auto, using(crate::proofs::AttributeLaws::an_attribute_law), unfolding(crate::specs::Attributes::attribute_list))]
 pub fn read_attributes<'t>(
     alloc: Global,
     rest: Cursor<'t>,
 ) -> Result<(Option<u64>, Cursor<'t>), End>
     ensures { Gives (λ x. x) result (attributes.read rest.entry) }
 {
-    let mut rest = rest;
-    let mut last = None;
-    while begins_attribute(rest.first()) {
-        let (found, after) = read_attribute(alloc, rest)?;
-        last = later(last, found);
-        rest = after;
-    }
-    Ok((last, rest))
+    fold_each(&AttributeReader { alloc }, None, rest)
 }

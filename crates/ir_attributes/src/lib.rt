@@ -4,8 +4,12 @@
 #![tactic(auto)]
 
 mod attributes;
+mod ignored;
+mod items;
 
 pub use attributes::{
-    later, read_alignment, read_attachment, read_attribute, read_attributes, skip_attachments,
-    skip_round_brackets,
+    AttachmentReader, begins_attribute, later, read_alignment, read_attachment, read_attribute,
+    read_attributes, skip_attachments, skip_round_brackets,
 };
+pub use ignored::{begins_ignored, skip_ignored, skip_metadata_body};
+pub use items::read_items;

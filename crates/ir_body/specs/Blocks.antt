@@ -1,5 +1,5 @@
 -- Basic blocks (LangRef, "Functions").
-use Rattle.std.specs.Prelude.{ℕ, Option, Some, None, List, [], ◌∷◌, Bool, false, true, filter_map, unwrap_or, if◌then◌else◌}
+use Rattle.std.specs.Prelude.{ℕ, Option, Some, None, List, [], ◌∷◌, ◌++◌, Bool, false, true, filter_map, unwrap_or, if◌then◌else◌}
 use Rattle.ir_syntax.specs.declared.block.Block.{Block}
 use Rattle.ir_syntax.specs.declared.instr.Instr.{Instr}
 use Rattle.ir_syntax.specs.declared.instr.Op.{Op}
@@ -9,7 +9,7 @@ use Rattle.ir_ident.specs.declared.name.Name.TheVariants.{Implicit}
 use Rattle.ir_syntax.specs.declared.phi.Phi.{Phi}
 use Rattle.ir_syntax.specs.declared.term.Term.{Term}
 use Rattle.ir_body.specs.declared.statement.PhiOrOp.{PhiOrOp}
-use Rattle.ir_body.specs.declared.statement.PhiOrOp.TheVariants as doing
+use Rattle.ir_body.specs.declared.statement.PhiOrOp.TheVariants as form
 use Rattle.ir_body.specs.declared.statement.Place.{Place}
 use Rattle.ir_body.specs.declared.statement.Place.TheVariants as place
 use Rattle.ir_body.specs.declared.statement.Statement.{Statement}
@@ -19,9 +19,9 @@ use Rattle.ir_words.specs.declared.class.Class.TheVariants as class
 use Rattle.ir_rules.specs.Leaves.{leaf, lined}
 use Rattle.ir_rules.specs.Rules.{Rule, ◌▷◌, ◌◁◌, chain, either, made, option, seq, within}
 use Rattle.ir_types.specs.Names.{label_name}
-use Rattle.ir_ops.specs.Operations.{entry_ops, plain_ops}
+use Rattle.ir_ops.specs.Operations.{entry_ops, op_firsts, op_flast, plain_ops}
 use Rattle.ir_terms.specs.Phis.{PhiParts, phis}
-use Rattle.ir_terms.specs.Terms.{terms}
+use Rattle.ir_terms.specs.Terms.{term_firsts, terms}
 use Rattle.ir_types.specs.Types.{local_names}
 
 -- whether an operation gives a result
@@ -40,65 +40,59 @@ abbrev pub statement_of : ℕ × (Option Name × PhiOrOp) → Statement
 statement_of z = at z.0 z.1.0 z.1.1
   where
     at : ℕ → Option Name → PhiOrOp → Statement
-    at line name (doing.Joins ty entries) = statement.Joining (record { line = line; result = unwrap_or name Implicit; ty = ty; entries = entries })
-    at line name (doing.Does None) = statement.Dropped
-    at line name (doing.Does (Some op)) = statement.Kept (record { line = line; result = result_name name op; op = op })
+    at line name (form.Phi ty entries) = statement.Phi (record { line = line; result = unwrap_or name Implicit; ty = ty; entries = entries })
+    at line name (form.Op None) = statement.Dropped
+    at line name (form.Op (Some op)) = statement.Instr (record { line = line; result = result_name name op; op = op })
 
 -- LOCAL =
 abbrev pub results : Rule Name
 results = local_names ◁ class.Equal
 
-abbrev pub doing_firsts : List Class
-doing_firsts = class.Phi ∷ class.Alloca ∷ class.Add ∷ class.Sub ∷ class.Mul ∷ class.Shl ∷ class.Udiv ∷ class.Sdiv ∷ class.Lshr ∷ class.Ashr
-    ∷ class.Urem ∷ class.Srem ∷ class.And ∷ class.Or ∷ class.Xor ∷ class.Icmp ∷ class.Select ∷ class.Trunc ∷ class.Zext ∷ class.Sext
-    ∷ class.Ptrtoint ∷ class.Inttoptr ∷ class.Bitcast ∷ class.Freeze ∷ class.Getelementptr ∷ class.Load ∷ class.Store
-    ∷ class.Tail ∷ class.Notail ∷ class.Call ∷ []
-
-abbrev pub doing_flast : List Class
-doing_flast = class.Comma ∷ class.OpenRound ∷ class.Equal ∷ class.Attribute ∷ class.Align ∷ class.Str ∷ class.Attr ∷ []
+abbrev pub phi_or_op_firsts : List Class
+phi_or_op_firsts = class.Phi ∷ class.Alloca ∷ op_firsts
 
 -- "phi" .. | op without alloca
 unfoldable pub phi_or_op_forms : Rule PhiOrOp
-phi_or_op_forms = either (made (λ (p : PhiParts). doing.Joins p.0 p.1) phis) (made (λ (op : Option Op). doing.Does op) plain_ops)
+phi_or_op_forms = either (made (λ (p : PhiParts). form.Phi p.0 p.1) phis) (made (λ (op : Option Op). form.Op op) plain_ops)
 
 abbrev pub phi_or_op : Rule PhiOrOp
-phi_or_op = within doing_firsts doing_flast false phi_or_op_forms
+phi_or_op = within phi_or_op_firsts op_flast false phi_or_op_forms
 
 -- In the first block no phi stands, in the others no alloca, and no phi behind an instruction.
-unfoldable pub doings : Place → Rule PhiOrOp
-doings place.Entry = within doing_firsts doing_flast false (made (λ (op : Option Op). doing.Does op) entry_ops)
-doings place.PhisOnly = phi_or_op
-doings place.AfterPhis = within doing_firsts doing_flast false (made (λ (op : Option Op). doing.Does op) plain_ops)
+unfoldable pub phi_or_ops : Place → Rule PhiOrOp
+phi_or_ops place.Entry = within phi_or_op_firsts op_flast false (made (λ (op : Option Op). form.Op op) entry_ops)
+phi_or_ops place.PhisOnly = phi_or_op
+phi_or_ops place.AfterPhis = within phi_or_op_firsts op_flast false (made (λ (op : Option Op). form.Op op) plain_ops)
 
 -- [LOCAL =] ("phi" .. | op) md*
 unfoldable pub statement_forms : Place → Rule Statement
-statement_forms at = made statement_of (lined (seq (option results) (doings at)))
+statement_forms at = made statement_of (lined (seq (option results) (phi_or_ops at)))
 
 abbrev pub statement_firsts : List Class
-statement_firsts = class.Local ∷ doing_firsts
+statement_firsts = class.Local ∷ phi_or_op_firsts
 
 abbrev pub statements : Place → Rule Statement
-statements at = within statement_firsts doing_flast false (statement_forms at)
+statements at = within statement_firsts op_flast false (statement_forms at)
 
 abbrev pub after_statement : Place → Statement → Place
 after_statement place.Entry s = place.Entry
 after_statement place.AfterPhis s = place.AfterPhis
-after_statement place.PhisOnly (statement.Joining p) = place.PhisOnly
-after_statement place.PhisOnly (statement.Kept i) = place.AfterPhis
+after_statement place.PhisOnly (statement.Phi p) = place.PhisOnly
+after_statement place.PhisOnly (statement.Instr i) = place.AfterPhis
 after_statement place.PhisOnly statement.Dropped = place.AfterPhis
 
 -- phi* instr*
 unfoldable pub statement_lists : Place → Rule (List Statement)
-statement_lists at = chain statement_firsts doing_flast statements after_statement at
+statement_lists at = chain statement_firsts op_flast statements after_statement at
 
 abbrev pub phi_in : Statement → Option Phi
-phi_in (statement.Joining p) = Some p
-phi_in (statement.Kept i) = None
+phi_in (statement.Phi p) = Some p
+phi_in (statement.Instr i) = None
 phi_in statement.Dropped = None
 
 abbrev pub instr_in : Statement → Option Instr
-instr_in (statement.Joining p) = None
-instr_in (statement.Kept i) = Some i
+instr_in (statement.Phi p) = None
+instr_in (statement.Instr i) = Some i
 instr_in statement.Dropped = None
 
 -- the phis and the instructions of a block
@@ -130,7 +124,7 @@ unfoldable pub block_forms : Bool → Rule Block
 block_forms first = made block_of (lined (seq (option labels) (seq (block_parts (first_place first)) terms)))
 
 abbrev pub block_firsts : List Class
-block_firsts = class.Label ∷ class.Ret ∷ class.Br ∷ class.Switch ∷ class.Unreachable ∷ statement_firsts
+block_firsts = class.Label ∷ (term_firsts ++ statement_firsts)
 
 -- a block; the first one of a function or another
 abbrev pub blocks : Bool → Rule Block

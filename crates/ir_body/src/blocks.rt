@@ -1,15 +1,16 @@
 //! Basic blocks (LangRef, "Functions").
-ghost use Rattle.std.specs.Prelude.{◌≡◌};
-ghost use Rattle.ir_body.specs.Blocks.{blocks, first_place, labels};
+ghost use Rattle.std.specs.Prelude.{◌≡◌, ◌∷◌, []};
+ghost use Rattle.ir_body.specs.Blocks.{block_firsts, blocks, first_place, labels};
 ghost use Rattle.ir_rules.specs.Reading.{Gives};
-ghost use Rattle.ir_rules.specs.Rules.{option};
+ghost use Rattle.ir_rules.specs.Rules.{has, option};
+ghost use Rattle.ir_words.specs.declared.class.Class.TheVariants as Classes;
 
 use crate::statement::Place;
-use crate::statements::read_block_parts;
+use crate::statements::{begins_statement, read_block_parts};
 use ir_ident::Name;
 use ir_rules::End;
 use ir_syntax::Block;
-use ir_terms::read_term;
+use ir_terms::{begins_term, read_term};
 use ir_types::name_of;
 use ir_words::{Class, Cursor};
 use std::alloc::Global;
@@ -28,7 +29,21 @@ fn read_label<'t>(alloc: Global, rest: Cursor<'t>) -> Result<(Option<Name>, Curs
     }
 }
 
-/// The place at the front of the first block of a function, or of another one.
+/// Whether a token of a class is a label.
+fn is_label(class: Class) -> bool
+    ensures { result ≡ has (Classes.Label ∷ []) class }
+{
+    class == Class::Label
+}
+
+/// Whether a token of a class begins a block.
+pub fn begins_block(class: Class) -> bool
+    ensures { result ≡ has block_firsts class }
+{
+    is_label(class) | begins_term(class) | begins_statement(class)
+}
+
+/// The place at the start of the first block of a function, or of another one.
 fn first_place(first: bool) -> Place
     ensures { result ≡ first_place first }
 {

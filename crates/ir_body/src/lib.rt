@@ -7,4 +7,5 @@ mod reader;
 mod statement;
 mod statements;
 
+pub use blocks::begins_block;
 pub use reader::read_block;

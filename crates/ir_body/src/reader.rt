@@ -1,7 +1,7 @@
-//! Blocks at the front of tokens (LangRef, "Functions").
+//! Blocks that tokens begin with (LangRef, "Functions").
 ghost use Rattle.std.specs.Prelude.{◌≡◌, ◌++◌, false, IfErr, IfOk, List, Ok};
 ghost use Rattle.ir_body.specs.Blocks.{blocks};
-ghost use Rattle.ir_rules.specs.Reading.{Gives, IsFront, StopsAt};
+ghost use Rattle.ir_rules.specs.Reading.{Gives, IsLongestPrefix, StopsAt};
 ghost use Rattle.ir_rules.specs.Rules.{begins};
 ghost use Rattle.ir_syntax.specs.declared.block.Block.{Block};
 ghost use Rattle.ir_words.specs.Lexemes.{Lexeme};
@@ -23,7 +23,7 @@ pub fn read_block<'t>(
     rest: Cursor<'t>,
     first: bool,
 ) -> Result<(Block, Cursor<'t>), End>
-    ensures ok { IfOk result (λ x. IsFront (blocks first) rest.entry x.0 x.1) }
+    ensures ok { IfOk result (λ x. IsLongestPrefix (blocks first) rest.entry x.0 x.1) }
     ensures bad { IfErr result (λ end. StopsAt (blocks first) rest.entry end) }
     ensures only { (us : List Lexeme) (vs : List Lexeme) (x : Block) → rest.entry ≡ us ++ vs → (blocks first).text us x → begins (blocks first).flast vs ≡ false → Gives (λ x. x) result (Ok (x, vs)) }
     ensures read { Gives (λ x. x) result ((blocks first).read rest.entry) }

@@ -5,18 +5,18 @@ use ir_syntax::{Instr, Op, Phi, PhiEntries, TyText};
 #[derive(Drop)]
 pub(crate) enum PhiOrOp {
     /// A phi: its type and its entries.
-    Joins(TyText, PhiEntries),
+    Phi(TyText, PhiEntries),
     /// An operation; none for a call that is dropped.
-    Does(Option<Op>),
+    Op(Option<Op>),
 }
 
 /// What stands before the terminator.
 #[derive(Drop)]
 pub(crate) enum Statement {
     /// A phi.
-    Joining(Phi),
+    Phi(Phi),
     /// An instruction.
-    Kept(Instr),
+    Instr(Instr),
     /// A call that is dropped.
     Dropped,
 }

@@ -1,12 +1,13 @@
 //! What stands in a block before its terminator.
 ghost use Rattle.std.specs.Prelude.{◌≡◌, ◌++◌, ◌∷◌, [], filter_map, OnOk};
-ghost use Rattle.ir_body.specs.Blocks.{after_statement, block_parts, doings, gives_result, instr_in, phi_in, phi_or_op, result_name, results, statement_of, statement_firsts, statements};
+ghost use Rattle.ir_body.specs.Blocks.{after_statement, block_parts, phi_or_ops, gives_result, instr_in, phi_in, phi_or_op, result_name, results, statement_of, statement_firsts, statements};
 ghost use Rattle.ir_rules.specs.Reading.{Gives};
 ghost use Rattle.ir_rules.specs.Rules.{has, option};
+ghost use Rattle.ir_words.specs.declared.class.Class.TheVariants as Classes;
 
 use crate::statement::{PhiOrOp, Place, Statement};
 use ir_ident::Name;
-use ir_ops::{read_entry_op, read_plain_op};
+use ir_ops::{begins_op, read_entry_op, read_plain_op};
 use ir_rules::{End, word};
 use ir_syntax::{Instr, Instrs, Op, Phi, Phis};
 use ir_terms::read_phi;
@@ -36,33 +37,33 @@ fn read_phi_or_op<'t>(alloc: Global, rest: Cursor<'t>) -> Result<(PhiOrOp, Curso
     match rest.first() {
         Class::Phi => {
             let ((ty, entries), rest) = read_phi(alloc, rest)?;
-            Ok((PhiOrOp::Joins(ty, entries), rest))
+            Ok((PhiOrOp::Phi(ty, entries), rest))
         }
         _ => {
             let (op, rest) = read_plain_op(alloc, rest)?;
-            Ok((PhiOrOp::Does(op), rest))
+            Ok((PhiOrOp::Op(op), rest))
         }
     }
 }
 
 /// Reads what may stand at a place, behind its name.
-#[tactic(auto, unfolding(crate::specs::Blocks::doings))]
-fn read_doing<'t>(
+#[tactic(auto, unfolding(crate::specs::Blocks::phi_or_ops))]
+fn read_at_place<'t>(
     alloc: Global,
     rest: Cursor<'t>,
     place: Place,
 ) -> Result<(PhiOrOp, Cursor<'t>), End>
-    ensures { Gives (λ x. x) result ((doings place).read rest.entry) }
+    ensures { Gives (λ x. x) result ((phi_or_ops place).read rest.entry) }
 {
     match place {
         Place::Entry => {
             let (op, rest) = read_entry_op(alloc, rest)?;
-            Ok((PhiOrOp::Does(op), rest))
+            Ok((PhiOrOp::Op(op), rest))
         }
         Place::PhisOnly => read_phi_or_op(alloc, rest),
         Place::AfterPhis => {
             let (op, rest) = read_plain_op(alloc, rest)?;
-            Ok((PhiOrOp::Does(op), rest))
+            Ok((PhiOrOp::Op(op), rest))
         }
     }
 }
@@ -90,18 +91,18 @@ fn result_name(name: Option<Name>, op: &Op) -> Option<Name>
 }
 
 /// A statement on a line, behind a name or none.
-fn statement_of(line: u32, name: Option<Name>, doing: PhiOrOp) -> Statement
-    ensures { result ≡ statement_of (line, (name, doing)) }
+fn statement_of(line: u32, name: Option<Name>, body: PhiOrOp) -> Statement
+    ensures { result ≡ statement_of (line, (name, body)) }
 {
-    match doing {
-        PhiOrOp::Joins(ty, entries) => Statement::Joining(Phi {
+    match body {
+        PhiOrOp::Phi(ty, entries) => Statement::Phi(Phi {
             line,
             result: name.unwrap_or(Name::Implicit),
             ty,
             entries,
         }),
-        PhiOrOp::Does(op) => match op {
-            Some(op) => Statement::Kept(Instr {
+        PhiOrOp::Op(op) => match op {
+            Some(op) => Statement::Instr(Instr {
                 line,
                 result: result_name(name, &op),
                 op,
@@ -122,8 +123,8 @@ fn read_statement<'t>(
 {
     let line = rest.line();
     let (name, rest) = read_result(alloc, rest)?;
-    let (doing, rest) = read_doing(alloc, rest, place)?;
-    Ok((statement_of(line, name, doing), rest))
+    let (body, rest) = read_at_place(alloc, rest, place)?;
+    Ok((statement_of(line, name, body), rest))
 }
 
 /// The place behind a statement.
@@ -132,8 +133,8 @@ fn after_statement(place: Place, statement: &Statement) -> Place
 {
     match place {
         Place::PhisOnly => match statement {
-            Statement::Joining(_) => Place::PhisOnly,
-            Statement::Kept(_) | Statement::Dropped => Place::AfterPhis,
+            Statement::Phi(_) => Place::PhisOnly,
+            Statement::Instr(_) | Statement::Dropped => Place::AfterPhis,
         },
         Place::Entry => Place::Entry,
         Place::AfterPhis => Place::AfterPhis,
@@ -150,51 +151,25 @@ fn keep_statement(
     ensures instrs { OnOk result (instrs.new.items ≡ instrs.old.items ++ filter_map instr_in (statement ∷ [])) }
 {
     match statement {
-        Statement::Joining(phi) => phis.push(phi)?,
-        Statement::Kept(instr) => instrs.push(instr)?,
+        Statement::Phi(phi) => phis.push(phi)?,
+        Statement::Instr(instr) => instrs.push(instr)?,
         Statement::Dropped => {}
     }
     Ok(())
 }
 
-/// Whether a statement may begin with a token of a class.
-fn begins_statement(class: Class) -> bool
+/// Whether a token of a class begins the name of a result, a phi or an `alloca`.
+fn begins_other_statement(class: Class) -> bool
+    ensures { result ≡ has (Classes.Local ∷ Classes.Phi ∷ Classes.Alloca ∷ []) class }
+{
+    matches!(class, Class::Local | Class::Phi | Class::Alloca)
+}
+
+/// Whether a token of a class begins a statement.
+pub(crate) fn begins_statement(class: Class) -> bool
     ensures { result ≡ has statement_firsts class }
 {
-    matches!(
-        class,
-        Class::Local
-            | Class::Phi
-            | Class::Alloca
-            | Class::Add
-            | Class::Sub
-            | Class::Mul
-            | Class::Shl
-            | Class::Udiv
-            | Class::Sdiv
-            | Class::Lshr
-            | Class::Ashr
-            | Class::Urem
-            | Class::Srem
-            | Class::And
-            | Class::Or
-            | Class::Xor
-            | Class::Icmp
-            | Class::Select
-            | Class::Trunc
-            | Class::Zext
-            | Class::Sext
-            | Class::Ptrtoint
-            | Class::Inttoptr
-            | Class::Bitcast
-            | Class::Freeze
-            | Class::Getelementptr
-            | Class::Load
-            | Class::Store
-            | Class::Tail
-            | Class::Notail
-            | Class::Call
-    )
+    begins_other_statement(class) | begins_op(class)
 }
 
 /// Reads the phis and the instructions of a block.

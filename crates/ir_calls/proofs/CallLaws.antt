@@ -6,17 +6,18 @@ use Rattle.ir_ident.specs.declared.name.NameUse.{NameUse}
 use Rattle.ir_syntax.specs.declared.operand.TypedOperand.{TypedOperand}
 use Rattle.ir_words.specs.Intrinsics.{begins_with, global_class, global_name, intrinsic_class, is_sized, name_class}
 use Rattle.ir_words.specs.declared.class.Class.TheVariants as class
-use Rattle.ir_rules.specs.declared.bracket.Bracket.TheVariants.{Curly}
-use Rattle.ir_rules.proofs.Balances.{enclosed_lawful}
+use Rattle.ir_rules.specs.Laws.{Lawful}
 use Rattle.ir_rules.proofs.Derived.{commas_lawful, dropped_lawful, option_lawful}
-use Rattle.ir_rules.proofs.Laws.{Lawful, either_lawful, made_lawful, seq_lawful, within_lawful}
+use Rattle.ir_rules.proofs.Laws.{either_lawful, made_lawful, seq_lawful, within_lawful}
 use Rattle.ir_rules.proofs.Leaves.{ending_lawful, leading_lawful, leaf_lawful, lined_lawful}
 use Rattle.ir_rules.proofs.Examples.{example}
 use Rattle.ir_rules.proofs.Words.{after_law, before_law, word_law}
 use Rattle.ir_calls.specs.Calls.{arg_forms, arg_list_forms, arg_lists, arg_of, args, call_forms, call_of, called_forms, callee_forms, callees, calls, convention, metadata_arg_forms, metadata_args, metadata_forms, metadata_list_forms, metadata_lists, metadata_value, parameter_types}
 use Rattle.ir_types.specs.Names.{name_of, use_of}
+use Rattle.ir_types.specs.Types.{types}
 use Rattle.ir_values.specs.Values.{global_uses_in}
-use Rattle.ir_attributes.proofs.AttributeLaws.{attributes_law, round_brackets_law}
+use Rattle.ir_attributes.proofs.AttributeLaws.{attributes_law}
+use Rattle.ir_attributes.proofs.IgnoredLaws.{metadata_body_law}
 use Rattle.ir_types.proofs.TypeLaws.{result_types_law, types_law}
 use Rattle.ir_values.proofs.ValueLaws.{operands_law, typed_operands_law}
 
@@ -33,9 +34,7 @@ metadata_value_law : Lawful metadata_value
 unfolding metadata_forms
 metadata_value_law =
     within_lawful _ _ _ _
-    (either_lawful _ _ (made_lawful (λ (o : Option (Unit {0})). tt) _ (before_law class.Meta _ refl refl (option_lawful _ round_brackets_law refl)))
-    (either_lawful _ _ (before_law class.Bang _ refl refl (enclosed_lawful Curly))
-    (made_lawful (λ (o : TypedOperand). tt) _ typed_operands_law) refl refl) refl refl)
+    (either_lawful _ _ metadata_body_law (made_lawful (λ (o : TypedOperand). tt) _ typed_operands_law) refl refl)
     refl refl refl
 
 pub metadata_args_law : Lawful metadata_args
@@ -73,6 +72,9 @@ callees_law =
     (either_lawful _ _ (made_lawful (λ (z : NameUse × List Arg). None) _ (seq_lawful _ _ dropped_callee_law arg_lists_law refl))
     (made_lawful (λ (z : NameUse × List Arg). Some z) _ (seq_lawful _ _ kept_callee_law arg_lists_law refl)) refl refl) refl refl)
     refl refl refl
+
+pub parameter_type_law : Lawful (types 64)
+parameter_type_law = types_law 64
 
 pub parameter_types_law : Lawful parameter_types
 parameter_types_law = before_law class.OpenRound _ refl refl (after_law _ class.CloseRound refl refl (commas_lawful _ (types_law 64) refl refl refl) refl)

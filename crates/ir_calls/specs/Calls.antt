@@ -7,13 +7,13 @@ use Rattle.ir_syntax.specs.declared.instr.Op.TheVariants as operation
 use Rattle.ir_ident.specs.declared.name.NameUse.{NameUse}
 use Rattle.ir_syntax.specs.declared.operand.Operand.{Operand}
 use Rattle.ir_syntax.specs.declared.operand.TypedOperand.{TypedOperand}
+use Rattle.ir_words.specs.declared.class.Class.{Class}
 use Rattle.ir_words.specs.declared.class.Class.TheVariants.{Align, Attribute, Attr, Bang, Call, Ccc, CloseRound, Coldcc, DroppedIntrinsic, Equal, Fastcc, Global, Intrinsic, IntType, Local, Meta, Metadata, MetadataIntrinsic, Notail, OpenCurly, OpenPacked, OpenRound, OpenSquare, Ptr, Str, Tail}
-use Rattle.ir_rules.specs.Balance.{enclosed}
 use Rattle.ir_rules.specs.Leaves.{ending, leading}
-use Rattle.ir_rules.specs.declared.bracket.Bracket.TheVariants.{Curly}
 use Rattle.ir_rules.specs.Rules.{Rule, ◌▷◌, ◌◁◌, commas, dropped, either, made, option, seq, within, word}
-use Rattle.ir_attributes.specs.Attributes.{attributes, round_brackets}
-use Rattle.ir_types.specs.Types.{result_types, types}
+use Rattle.ir_attributes.specs.Attributes.{attribute_flast, attributes}
+use Rattle.ir_attributes.specs.Ignored.{metadata_body}
+use Rattle.ir_types.specs.Types.{result_types, type_firsts, types}
 use Rattle.ir_values.specs.Values.{global_uses_in, operands, typed_operands}
 
 abbrev pub arg_of : TextTree × (Option ℕ × Operand) → Arg
@@ -24,7 +24,7 @@ unfoldable pub arg_forms : Rule Arg
 arg_forms = made arg_of (seq (types 64) (seq attributes operands))
 
 abbrev pub args : Rule Arg
-args = within (OpenSquare ∷ OpenCurly ∷ OpenPacked ∷ IntType ∷ Ptr ∷ Local ∷ []) [] false arg_forms
+args = within type_firsts [] false arg_forms
 
 -- ( arg,* )
 unfoldable pub arg_list_forms : Rule (List Arg)
@@ -35,19 +35,21 @@ arg_lists = within (OpenRound ∷ []) [] false arg_list_forms
 
 -- META ["(" BAL ")"] | ! { BAL } | type value
 unfoldable pub metadata_forms : Rule (Unit {0})
-metadata_forms =
-    either (made (λ (o : Option (Unit {0})). tt) (Meta ▷ option round_brackets))
-    (either (Bang ▷ enclosed Curly) (made (λ (o : TypedOperand). tt) typed_operands))
+metadata_forms = either metadata_body (made (λ (o : TypedOperand). tt) typed_operands)
 
 abbrev pub metadata_value : Rule (Unit {0})
-metadata_value = within (Meta ∷ Bang ∷ OpenSquare ∷ OpenCurly ∷ OpenPacked ∷ IntType ∷ Ptr ∷ Local ∷ []) (OpenRound ∷ []) false metadata_forms
+metadata_value = within (Meta ∷ Bang ∷ type_firsts) (OpenRound ∷ []) false metadata_forms
 
 -- type attr* value | "metadata" (META ["(" BAL ")"] | ! { BAL } | type value)
 unfoldable pub metadata_arg_forms : Rule (Unit {0})
 metadata_arg_forms = either (Metadata ▷ metadata_value) (made (λ (a : Arg). tt) args)
 
+-- the tokens that a type, or `metadata`, begins with
+abbrev pub metadata_or_type_firsts : List Class
+metadata_or_type_firsts = Metadata ∷ type_firsts
+
 abbrev pub metadata_args : Rule (Unit {0})
-metadata_args = within (Metadata ∷ OpenSquare ∷ OpenCurly ∷ OpenPacked ∷ IntType ∷ Ptr ∷ Local ∷ []) (OpenRound ∷ []) false metadata_arg_forms
+metadata_args = within metadata_or_type_firsts (OpenRound ∷ []) false metadata_arg_forms
 
 -- ( type attr* value | "metadata" .. ,* ), of which nothing is kept
 unfoldable pub metadata_list_forms : Rule (Unit {0})
@@ -85,6 +87,9 @@ parameter_types = OpenRound ▷ commas (types 64) ◁ CloseRound
 abbrev pub convention : Rule (Unit {0})
 convention = either (word Ccc) (either (word Fastcc) (word Coldcc))
 
+abbrev pub convention_firsts : List Class
+convention_firsts = Ccc ∷ Fastcc ∷ Coldcc ∷ []
+
 -- convention* attr* rtype ["(" type,* ")"] GLOBAL ( arg,* ) attr*
 unfoldable pub called_forms : Rule (Option Op)
 called_forms = leading (dropped convention) (leading attributes
@@ -94,5 +99,9 @@ called_forms = leading (dropped convention) (leading attributes
 unfoldable pub call_forms : Rule (Option Op)
 call_forms = leading (option (either (word Tail) (word Notail))) (Call ▷ called_forms)
 
+-- the first words of calls
+abbrev pub call_firsts : List Class
+call_firsts = Tail ∷ Notail ∷ Call ∷ []
+
 abbrev pub calls : Rule (Option Op)
-calls = within (Tail ∷ Notail ∷ Call ∷ []) (OpenRound ∷ Equal ∷ Attribute ∷ Align ∷ Str ∷ Attr ∷ []) false call_forms
+calls = within call_firsts attribute_flast false call_forms

@@ -2,10 +2,10 @@
 ghost use Rattle.ir_calls.specs.Calls.{arg_lists, args, parameter_types};
 ghost use Rattle.ir_types.specs.Types.{types};
 ghost use Rattle.ir_rules.specs.Reading.{Gives};
-ghost use Rattle.ir_rules.specs.Rules.{commas, commas_some, option};
+ghost use Rattle.ir_rules.specs.Rules.{commas, option};
 
 use ir_attributes::read_attributes;
-use ir_rules::{End, word};
+use ir_rules::{Element, End, read_commas, word};
 use ir_syntax::{Arg, Args, TyText, TypeTexts};
 use ir_types::{begins_type, read_type};
 use ir_values::read_operand;
@@ -23,32 +23,35 @@ pub(crate) fn read_arg<'t>(alloc: Global, rest: Cursor<'t>) -> Result<(Arg, Curs
     Ok((Arg { ty, align, value }, rest))
 }
 
-/// Reads one argument or more, separated by commas.
-fn read_some_args<'t>(alloc: Global, rest: Cursor<'t>) -> Result<(Vec<Arg>, Cursor<'t>), End>
-    ensures { Gives (λ x. (x.0.items, x.1)) result ((commas_some args).read rest.entry) }
-{
-    let (first, rest) = read_arg(alloc, rest)?;
-    let mut rest = rest;
-    let mut list = Vec::new(alloc);
-    list.push(first)?;
-    while rest.first() == Class::Comma {
-        let (arg, after) = read_arg(alloc, rest.skip())?;
-        list.push(arg)?;
-        rest = after;
-    }
-    Ok((list, rest))
+/// The reader of an argument.
+#[derive(Drop)]
+struct ArgReader {
+    alloc: Global,
 }
 
-/// Reads no argument, or more, separated by commas.
+impl Element for ArgReader {
+    type Tree = Arg;
+
+    ghost rule = { λ _. args };
+
+    ghost takes_memory = { Unit {0} };
+
+    fn begins(&self, class: Class) -> bool {
+        begins_type(class)
+    }
+
+    fn read<'t>(&self, rest: Cursor<'t>) -> Result<(Arg, Cursor<'t>), End> {
+        read_arg(self.alloc, rest)
+    }
+}
+
+/// Reads arguments separated by commas, or none.
+#[tactic(auto, using(crate::proofs::CallLaws::args_law))]
 fn read_args<'t>(alloc: Global, rest: Cursor<'t>) -> Result<(Args, Cursor<'t>), End>
     ensures { Gives (λ x. x) result ((commas args).read rest.entry) }
 {
-    if begins_type(rest.first()) {
-        let (list, rest) = read_some_args(alloc, rest)?;
-        Ok((Args::from_vec(list), rest))
-    } else {
-        Ok((Args::from_vec(Vec::new(alloc)), rest))
-    }
+    let (list, rest) = read_commas(alloc, &ArgReader { alloc }, rest)?;
+    Ok((Args::from_vec(list), rest))
 }
 
 /// Reads arguments between round brackets.
@@ -62,32 +65,35 @@ pub(crate) fn read_arg_list<'t>(alloc: Global, rest: Cursor<'t>) -> Result<(Args
     Ok((args, rest))
 }
 
-/// Reads one type or more, separated by commas.
-fn read_some_types<'t>(alloc: Global, rest: Cursor<'t>) -> Result<(Vec<TyText>, Cursor<'t>), End>
-    ensures { Gives (λ x. (x.0.items, x.1)) result ((commas_some (types 64)).read rest.entry) }
-{
-    let (first, rest) = read_type(alloc, rest, 64)?;
-    let mut rest = rest;
-    let mut list = Vec::new(alloc);
-    list.push(first)?;
-    while rest.first() == Class::Comma {
-        let (ty, after) = read_type(alloc, rest.skip(), 64)?;
-        list.push(ty)?;
-        rest = after;
-    }
-    Ok((list, rest))
+/// The reader of a type.
+#[derive(Drop)]
+struct TypeReader {
+    alloc: Global,
 }
 
-/// Reads no type, or more, separated by commas.
+impl Element for TypeReader {
+    type Tree = TyText;
+
+    ghost rule = { λ _. types 64 };
+
+    ghost takes_memory = { Unit {0} };
+
+    fn begins(&self, class: Class) -> bool {
+        begins_type(class)
+    }
+
+    fn read<'t>(&self, rest: Cursor<'t>) -> Result<(TyText, Cursor<'t>), End> {
+        read_type(self.alloc, rest, 64)
+    }
+}
+
+/// Reads types separated by commas, or none.
+#[tactic(auto, using(crate::proofs::CallLaws::parameter_type_law))]
 fn read_types<'t>(alloc: Global, rest: Cursor<'t>) -> Result<(TypeTexts, Cursor<'t>), End>
     ensures { Gives (λ x. x) result ((commas (types 64)).read rest.entry) }
 {
-    if begins_type(rest.first()) {
-        let (list, rest) = read_some_types(alloc, rest)?;
-        Ok((TypeTexts::from_vec(list), rest))
-    } else {
-        Ok((TypeTexts::from_vec(Vec::new(alloc)), rest))
-    }
+    let (list, rest) = read_commas(alloc, &TypeReader { alloc }, rest)?;
+    Ok((TypeTexts::from_vec(list), rest))
 }
 
 /// Reads types between round brackets.

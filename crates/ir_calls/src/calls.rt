@@ -1,19 +1,19 @@
 //! Calls (LangRef, "'call' Instruction").
 ghost use Rattle.ir_attributes.specs.Attributes.{attributes};
-ghost use Rattle.ir_calls.specs.Calls.{arg_lists, call_of, called_forms, callees, calls, convention};
+ghost use Rattle.ir_calls.specs.Calls.{arg_lists, call_firsts, call_of, called_forms, callees, calls, convention, convention_firsts};
 ghost use Rattle.ir_values.specs.Values.{global_uses_in};
 ghost use Rattle.ir_rules.specs.Leaves.{ending};
 ghost use Rattle.ir_rules.specs.Reading.{Gives, GivesExactly};
-ghost use Rattle.ir_rules.specs.Rules.{dropped, has, seq, ◌▷◌};
+ghost use Rattle.ir_rules.specs.Rules.{has, seq, ◌▷◌};
 ghost use Rattle.ir_words.specs.declared.class.Class.TheVariants as Classes;
-ghost use Rattle.ir_words.specs.declared.class.Class.TheVariants.{Call, Ccc, Coldcc, Fastcc, Intrinsic};
+ghost use Rattle.ir_words.specs.declared.class.Class.TheVariants.{Call, Intrinsic};
 ghost use Rattle.std.specs.Prelude.{◌≡◌, [], ◌∷◌};
 
 use crate::arguments::{read_arg_list, read_parameter_types};
 use crate::metadata::skip_metadata_list;
 use ir_attributes::read_attributes;
 use ir_ident::NameUse;
-use ir_rules::{End, word};
+use ir_rules::{Element, End, skip_each, word};
 use ir_syntax::{Args, Op, TyText, TypeTexts};
 use ir_types::read_result_type;
 use ir_values::{read_dropped_intrinsic, read_function_use, read_metadata_intrinsic};
@@ -75,21 +75,30 @@ pub fn skip_convention<'t>(rest: Cursor<'t>) -> Result<Cursor<'t>, End>
 }
 
 /// Whether a token of a class is a calling convention.
-fn is_convention(class: Class) -> bool
-    ensures { result ≡ has (Ccc ∷ Fastcc ∷ Coldcc ∷ []) class }
+pub fn is_convention(class: Class) -> bool
+    ensures { result ≡ has convention_firsts class }
 {
     matches!(class, Class::Ccc | Class::Fastcc | Class::Coldcc)
 }
 
-/// Reads calling conventions.
-fn skip_conventions<'t>(rest: Cursor<'t>) -> Result<Cursor<'t>, End>
-    ensures { GivesExactly (λ rest. (tt, rest)) result ((dropped convention).read rest.entry) }
-{
-    let mut rest = rest;
-    while is_convention(rest.first()) {
-        rest = skip_convention(rest)?;
+/// The reader of a calling convention.
+#[derive(Drop)]
+struct ConventionReader;
+
+impl Element for ConventionReader {
+    type Tree = ();
+
+    ghost rule = { λ _. convention };
+
+    ghost takes_memory = { ⊥ };
+
+    fn begins(&self, class: Class) -> bool {
+        is_convention(class)
     }
-    Ok(rest)
+
+    fn read<'t>(&self, rest: Cursor<'t>) -> Result<((), Cursor<'t>), End> {
+        Ok(((), skip_convention(rest)?))
+    }
 }
 
 /// The call of a function; none where calls of it are dropped.
@@ -117,11 +126,11 @@ fn read_attributed_callee<'t>(alloc: Global, rest: Cursor<'t>) -> Result<(Callee
 }
 
 /// Reads what stands behind `call`.
-#[tactic(auto, unfolding(crate::specs::Calls::called_forms))]
+#[tactic(auto, using(crate::proofs::CallLaws::convention_law), unfolding(crate::specs::Calls::called_forms))]
 fn read_called<'t>(alloc: Global, rest: Cursor<'t>) -> Result<(Option<Op>, Cursor<'t>), End>
     ensures { Gives (λ x. x) result (called_forms.read rest.entry) }
 {
-    let rest = skip_conventions(rest)?;
+    let rest = skip_each(&ConventionReader, rest)?;
     let (_of_result, rest) = read_attributes(alloc, rest)?;
     let (ty, rest) = read_result_type(alloc, rest)?;
     let (params, rest) = read_parameter_types(alloc, rest)?;
@@ -135,6 +144,13 @@ fn read_plain_call<'t>(alloc: Global, rest: Cursor<'t>) -> Result<(Option<Op>, C
 {
     let rest = word(rest, Class::Call)?;
     read_called(alloc, rest)
+}
+
+/// Whether a token of a class begins a call.
+pub fn begins_call(class: Class) -> bool
+    ensures { result ≡ has call_firsts class }
+{
+    matches!(class, Class::Tail | Class::Notail | Class::Call)
 }
 
 /// Reads a call; none of an intrinsic that means nothing here.

@@ -8,4 +8,5 @@ mod calls;
 mod metadata;
 
 pub use arguments::read_parameter_types;
-pub use calls::{read_call, skip_convention};
+pub use calls::{begins_call, is_convention, read_call, skip_convention};
+pub use metadata::begins_metadata_or_type;

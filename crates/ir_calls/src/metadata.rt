@@ -1,28 +1,17 @@
 //! Arguments of the intrinsics that only carry metadata (LangRef, "Metadata as Value").
-ghost use Rattle.ir_attributes.specs.Attributes.{round_brackets};
-ghost use Rattle.ir_calls.specs.Calls.{metadata_args, metadata_lists, metadata_value};
+ghost use Rattle.ir_calls.specs.Calls.{metadata_args, metadata_lists, metadata_or_type_firsts, metadata_value};
 ghost use Rattle.ir_rules.specs.Reading.{Gives};
-ghost use Rattle.ir_rules.specs.Rules.{commas, commas_some, made, option, ◌▷◌};
-ghost use Rattle.ir_words.specs.declared.class.Class.TheVariants.{Meta};
-ghost use Rattle.std.specs.Prelude.{List, Option};
+ghost use Rattle.ir_rules.specs.Rules.{has};
+ghost use Rattle.ir_words.specs.declared.class.Class.TheVariants.{Metadata};
+ghost use Rattle.std.specs.Prelude.{◌≡◌, [], ◌∷◌};
 
 use crate::arguments::read_arg;
-use ir_attributes::skip_round_brackets;
-use ir_rules::{Bracket, End, skip_enclosed, word};
+use ir_attributes::skip_metadata_body;
+use ir_rules::{Element, End, skip_commas, word};
+use ir_types::begins_type;
 use ir_values::read_typed_operand;
 use ir_words::{Class, Cursor};
 use std::alloc::Global;
-
-/// Reads a metadata name, and what it says between brackets.
-fn skip_named_metadata<'t>(alloc: Global, rest: Cursor<'t>) -> Result<Cursor<'t>, End>
-    ensures { Gives (λ rest. (tt, rest)) result ((made (λ (o : Option (Unit {0})). tt {0}) (Meta ▷ option round_brackets)).read rest.entry) }
-{
-    let rest = word(rest, Class::Meta)?;
-    match rest.first() {
-        Class::OpenRound => skip_round_brackets(alloc, rest),
-        _ => Ok(rest),
-    }
-}
 
 /// Reads what stands behind `metadata`.
 #[tactic(auto, unfolding(crate::specs::Calls::metadata_forms))]
@@ -30,8 +19,7 @@ fn skip_metadata_value<'t>(alloc: Global, rest: Cursor<'t>) -> Result<Cursor<'t>
     ensures { Gives (λ rest. (tt, rest)) result (metadata_value.read rest.entry) }
 {
     match rest.first() {
-        Class::Meta => skip_named_metadata(alloc, rest),
-        Class::Bang => skip_enclosed(alloc, rest.skip(), Bracket::Curly),
+        Class::Meta | Class::Bang => skip_metadata_body(alloc, rest),
         _ => {
             let (value, rest) = read_typed_operand(alloc, rest)?;
             drop(value);
@@ -55,39 +43,48 @@ fn skip_metadata_arg<'t>(alloc: Global, rest: Cursor<'t>) -> Result<Cursor<'t>, 
     }
 }
 
-/// Reads one such argument or more, separated by commas.
-fn skip_some_metadata_args<'t>(alloc: Global, rest: Cursor<'t>) -> Result<Cursor<'t>, End>
-    ensures { Gives (λ rest. (tt, rest)) result ((made (λ (xs : List (Unit {0})). tt {0}) (commas_some metadata_args)).read rest.entry) }
+/// Whether a token of a class is `metadata`.
+fn is_metadata(class: Class) -> bool
+    ensures { result ≡ has (Metadata ∷ []) class }
 {
-    let mut rest = skip_metadata_arg(alloc, rest)?;
-    while rest.first() == Class::Comma {
-        rest = skip_metadata_arg(alloc, rest.skip())?;
+    class == Class::Metadata
+}
+
+/// Whether a token of a class is `metadata`, or begins a type.
+pub fn begins_metadata_or_type(class: Class) -> bool
+    ensures { result ≡ has metadata_or_type_firsts class }
+{
+    is_metadata(class) | begins_type(class)
+}
+
+/// The reader of such an argument.
+#[derive(Drop)]
+struct MetadataArgReader {
+    alloc: Global,
+}
+
+impl Element for MetadataArgReader {
+    type Tree = ();
+
+    ghost rule = { λ _. metadata_args };
+
+    ghost takes_memory = { Unit {0} };
+
+    fn begins(&self, class: Class) -> bool {
+        begins_metadata_or_type(class)
     }
-    Ok(rest)
+
+    fn read<'t>(&self, rest: Cursor<'t>) -> Result<((), Cursor<'t>), End> {
+        Ok(((), skip_metadata_arg(self.alloc, rest)?))
+    }
 }
 
 /// Reads such arguments between round brackets.
-#[tactic(auto, unfolding(crate::specs::Calls::metadata_list_forms))]
+#[tactic(auto, using(crate::proofs::CallLaws::metadata_args_law), unfolding(crate::specs::Calls::metadata_list_forms))]
 pub(crate) fn skip_metadata_list<'t>(alloc: Global, rest: Cursor<'t>) -> Result<Cursor<'t>, End>
     ensures { Gives (λ rest. (tt, rest)) result (metadata_lists.read rest.entry) }
 {
     let rest = word(rest, Class::OpenRound)?;
-    let rest = skip_metadata_args(alloc, rest)?;
+    let rest = skip_commas(&MetadataArgReader { alloc }, rest)?;
     Ok(word(rest, Class::CloseRound)?)
-}
-
-/// Reads no such argument, or more, separated by commas.
-fn skip_metadata_args<'t>(alloc: Global, rest: Cursor<'t>) -> Result<Cursor<'t>, End>
-    ensures { Gives (λ rest. (tt, rest)) result ((made (λ (xs : List (Unit {0})). tt {0}) (commas metadata_args)).read rest.entry) }
-{
-    match rest.first() {
-        Class::Metadata
-        | Class::OpenSquare
-        | Class::OpenCurly
-        | Class::OpenPacked
-        | Class::IntType
-        | Class::Ptr
-        | Class::Local => skip_some_metadata_args(alloc, rest),
-        _ => Ok(rest),
-    }
 }

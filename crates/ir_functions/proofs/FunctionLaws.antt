@@ -2,9 +2,10 @@
 use Rattle.std.proofs.Common.{true, false, List, ◌∷◌, refl}
 use Rattle.ir_syntax.specs.declared.block.Block.{Block}
 use Rattle.ir_words.specs.declared.class.Class.TheVariants as class
+use Rattle.ir_rules.specs.Laws.{Lawful}
 use Rattle.ir_rules.proofs.Chains.{each_lawful}
 use Rattle.ir_rules.proofs.Derived.{dropped_lawful, option_lawful}
-use Rattle.ir_rules.proofs.Laws.{Lawful, made_lawful, seq_lawful, within_lawful}
+use Rattle.ir_rules.proofs.Laws.{made_lawful, seq_lawful, within_lawful}
 use Rattle.ir_rules.proofs.Leaves.{ending_lawful, leading_lawful, lined_lawful}
 use Rattle.ir_rules.proofs.Words.{after_law, before_law, word_law}
 use Rattle.ir_attributes.proofs.AttributeLaws.{attachment_law}

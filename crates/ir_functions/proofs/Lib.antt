@@ -1,2 +1,1 @@
-pub mod BlockStarts
 pub mod FunctionLaws

@@ -14,7 +14,7 @@ use Rattle.ir_globals.specs.Heads.{linkage, visibility}
 use Rattle.ir_entities.specs.declared.entity.Entity.{Entity}
 use Rattle.ir_entities.specs.declared.entity.Entity.TheVariants as entity
 use Rattle.ir_functions.specs.declared.opening.Opening.{Opening}
-use Rattle.ir_prototypes.specs.Prototypes.{Signature, declared_ends, declared_signatures, defined_ends, defined_signatures, params, signature_of}
+use Rattle.ir_prototypes.specs.Prototypes.{Signature, declared_end_firsts, declared_ends, declared_signatures, defined_ends, defined_signatures, params, signature_of}
 
 -- first block*
 abbrev pub block_lists : Rule (List Block)
@@ -49,27 +49,27 @@ declaration_forms = made declaration_of (lined (class.Declare ▷ leading (dropp
     (leading (option (word class.External)) (ending declared_signatures (dropped declared_ends)))))
 
 abbrev pub suffix_flast : List Class
-suffix_flast = class.OpenRound ∷ class.Equal ∷ class.Attribute ∷ class.Align ∷ class.Str ∷ class.Attr ∷ class.UnnamedAddr ∷ class.LocalUnnamedAddr ∷ []
+suffix_flast = class.OpenRound ∷ class.Equal ∷ declared_end_firsts
 
 abbrev pub declarations : Rule (Option Entity)
 declarations = within (class.Declare ∷ []) suffix_flast false declaration_forms
 
 -- what a definition says before its blocks, on the line of "define"
-abbrev pub Front : Type 0
-Front = ℕ × (Linkage × Signature)
+abbrev pub OpeningParts : Type 0
+OpeningParts = ℕ × (Linkage × Signature)
 
 -- what is kept of it in code, as it is here
-abbrev pub front_of : Opening → Front
-front_of o = (o.line, (o.linkage, signature_of o.prototype))
+abbrev pub opening_parts : Opening → OpeningParts
+opening_parts o = (o.line, (o.linkage, signature_of o.prototype))
 
 -- "define" [linkage] pre* attr* rtype GLOBAL ( param,* ) fsuf* {
-unfoldable pub opening_forms : Rule Front
+unfoldable pub opening_forms : Rule OpeningParts
 opening_forms = lined (class.Define ▷ seq linkage (ending defined_signatures (dropped defined_ends) ◁ class.OpenCurly))
 
-abbrev pub openings : Rule Front
+abbrev pub openings : Rule OpeningParts
 openings = within (class.Define ∷ []) [] false opening_forms
 
-abbrev pub definition_of : Front × List Block → Option Entity
+abbrev pub definition_of : OpeningParts × List Block → Option Entity
 definition_of z = Some (entity.Function (function_of z.0.0 z.0.1.0 z.0.1.1 (Some z.1)))
 
 -- "define" [linkage] pre* attr* rtype GLOBAL ( param,* ) fsuf* { first block* }

@@ -1,15 +1,14 @@
 //! Functions, declared and defined (LangRef, "Functions").
-ghost use Rattle.std.specs.Prelude.{◌≡◌, Some, None, if◌then◌else◌};
+ghost use Rattle.std.specs.Prelude.{◌≡◌, Some, None, false, if◌then◌else◌};
 ghost use Rattle.ir_words.specs.declared.class.Class.TheVariants.{External};
 ghost use Rattle.ir_rules.specs.Reading.{Gives, GivesExactly};
-ghost use Rattle.ir_rules.specs.Rules.{has, option, word};
-ghost use Rattle.ir_body.specs.Blocks.{block_firsts};
-ghost use Rattle.ir_functions.specs.BlockWords.{computation_words, instruction_words, other_firsts};
-ghost use Rattle.ir_functions.specs.Functions.{block_lists, closed_blocks, declarations, definitions, front_of, function_of, openings};
+ghost use Rattle.ir_rules.specs.Rules.{option, word};
+ghost use Rattle.ir_body.specs.Blocks.{blocks};
+ghost use Rattle.ir_functions.specs.Functions.{block_lists, closed_blocks, declarations, definitions, opening_parts, function_of, openings};
 ghost use Rattle.ir_prototypes.specs.Prototypes.{signature_of};
 
 use crate::opening::Opening;
-use ir_body::read_block;
+use ir_body::{begins_block, read_block};
 use ir_entities::Entity;
 use ir_globals::read_linkage;
 use ir_ident::NameUse;
@@ -17,7 +16,7 @@ use ir_prototypes::{
     Prototype, read_declared_signature, read_defined_signature, skip_declared_ends,
     skip_defined_ends, skip_metadata,
 };
-use ir_rules::{End, word};
+use ir_rules::{Element, End, append_each, word};
 use ir_syntax::{Block, Blocks, Function, Linkage};
 use ir_words::{Class, Cursor};
 use std::alloc::Global;
@@ -83,91 +82,36 @@ pub fn read_declaration<'t>(alloc: Global, rest: Cursor<'t>) -> Result<(Entity, 
     Ok((Entity::Function(function), rest))
 }
 
-/// Whether a token of a class is the word of a computation.
-fn begins_computation(class: Class) -> bool
-    ensures { result ≡ has computation_words class }
-{
-    matches!(
-        class,
-        Class::Add
-            | Class::Sub
-            | Class::Mul
-            | Class::Shl
-            | Class::Udiv
-            | Class::Sdiv
-            | Class::Lshr
-            | Class::Ashr
-            | Class::Urem
-            | Class::Srem
-            | Class::And
-            | Class::Or
-            | Class::Xor
-            | Class::Icmp
-            | Class::Select
-    )
+/// The reader of a block behind the first one.
+#[derive(Drop)]
+struct BlockReader {
+    alloc: Global,
 }
 
-/// Whether a token of a class is the word of another instruction.
-fn begins_instruction(class: Class) -> bool
-    ensures { result ≡ has instruction_words class }
-{
-    matches!(
-        class,
-        Class::Trunc
-            | Class::Zext
-            | Class::Sext
-            | Class::Ptrtoint
-            | Class::Inttoptr
-            | Class::Bitcast
-            | Class::Freeze
-            | Class::Getelementptr
-            | Class::Load
-            | Class::Store
-            | Class::Tail
-            | Class::Notail
-            | Class::Call
-    )
-}
+impl Element for BlockReader {
+    type Tree = Block;
 
-/// Whether a token of a class begins a block, other than by an instruction of those.
-fn begins_otherwise(class: Class) -> bool
-    ensures { result ≡ has other_firsts class }
-{
-    matches!(
-        class,
-        Class::Label
-            | Class::Ret
-            | Class::Br
-            | Class::Switch
-            | Class::Unreachable
-            | Class::Local
-            | Class::Phi
-            | Class::Alloca
-    )
-}
+    ghost rule = { λ _. blocks false };
 
-/// Whether a token of a class begins a block.
-#[tactic(auto, using(crate::proofs::BlockStarts::begins_by_parts))]
-fn begins_block(class: Class) -> bool
-    ensures { result ≡ has block_firsts class }
-{
-    begins_otherwise(class) | begins_computation(class) | begins_instruction(class)
+    ghost takes_memory = { Unit {0} };
+
+    fn begins(&self, class: Class) -> bool {
+        begins_block(class)
+    }
+
+    fn read<'t>(&self, rest: Cursor<'t>) -> Result<(Block, Cursor<'t>), End> {
+        read_block(self.alloc, rest, false)
+    }
 }
 
 /// Reads the blocks of a function.
 fn read_blocks<'t>(alloc: Global, rest: Cursor<'t>) -> Result<(Vec<Block>, Cursor<'t>), End>
     ensures { Gives (λ x. (x.0.items, x.1)) result (block_lists.read rest.entry) }
 {
+    let (first, rest) = read_block(alloc, rest, true)?;
     let mut list = Vec::new(alloc);
-    let (first, after) = read_block(alloc, rest, true)?;
     list.push(first)?;
-    let mut rest = after;
-    while begins_block(rest.first()) {
-        let (block, after) = read_block(alloc, rest, false)?;
-        list.push(block)?;
-        rest = after;
-    }
-    Ok((list, rest))
+    append_each(&BlockReader { alloc }, list, rest)
 }
 
 /// Reads the blocks of a function, and the bracket behind them.
@@ -180,14 +124,14 @@ fn read_closed_blocks<'t>(alloc: Global, rest: Cursor<'t>) -> Result<(Blocks, Cu
     Ok((Blocks::from_vec(list), rest))
 }
 
-/// Reads the front of a definition, up to the bracket before its first block.
+/// Reads a definition up to the bracket before its first block.
 ///
 /// # Errors
 ///
 /// `Bad` at the first token that can't stand there, `NoMemory` if memory runs out.
 #[tactic(auto, unfolding(crate::specs::Functions::opening_forms))]
 pub fn read_opening<'t>(alloc: Global, rest: Cursor<'t>) -> Result<(Opening, Cursor<'t>), End>
-    ensures { Gives (λ x. (front_of x.0, x.1)) result (openings.read rest.entry) }
+    ensures { Gives (λ x. (opening_parts x.0, x.1)) result (openings.read rest.entry) }
 {
     let line = rest.line();
     let rest = word(rest, Class::Define)?;

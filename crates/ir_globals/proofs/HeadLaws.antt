@@ -5,8 +5,9 @@ use Rattle.ir_syntax.specs.declared.linkage.Linkage.TheVariants as link
 use Rattle.ir_syntax.specs.declared.linkage.Visibility.{Visibility}
 use Rattle.ir_syntax.specs.declared.linkage.Visibility.TheVariants as seen
 use Rattle.ir_words.specs.declared.class.Class.TheVariants as class
+use Rattle.ir_rules.specs.Laws.{Lawful}
 use Rattle.ir_rules.proofs.Chains.{each_lawful}
-use Rattle.ir_rules.proofs.Laws.{Lawful, either_lawful, made_lawful, nothing_lawful, within_lawful}
+use Rattle.ir_rules.proofs.Laws.{either_lawful, made_lawful, nothing_lawful, within_lawful}
 use Rattle.ir_rules.proofs.Words.{means_law, word_law}
 use Rattle.ir_calls.proofs.CallLaws.{convention_law}
 use Rattle.ir_globals.specs.Heads.{address_forms, addresses, style_forms, styles, later_seen, linkage, linkage_forms, local_linkage, local_linkage_forms, mark_forms, marks, visibility, visibility_forms}

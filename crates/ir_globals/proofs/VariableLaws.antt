@@ -6,9 +6,10 @@ use Rattle.ir_syntax.specs.declared.linkage.Linkage.TheVariants as link
 use Rattle.ir_ident.specs.declared.name.NameUse.{NameUse}
 use Rattle.ir_syntax.specs.declared.operand.ConstantGep.{ConstantGep}
 use Rattle.ir_words.specs.declared.class.Class.TheVariants as class
+use Rattle.ir_rules.specs.Laws.{Lawful}
 use Rattle.ir_rules.proofs.Chains.{each_lawful}
 use Rattle.ir_rules.proofs.Derived.{option_lawful}
-use Rattle.ir_rules.proofs.Laws.{Lawful, either_lawful, made_lawful, seq_lawful, within_lawful}
+use Rattle.ir_rules.proofs.Laws.{either_lawful, made_lawful, seq_lawful, within_lawful}
 use Rattle.ir_rules.proofs.Words.{before_law, means_law}
 use Rattle.ir_attributes.specs.Attributes.{later}
 use Rattle.ir_attributes.proofs.AttributeLaws.{alignments_law, attachment_law}

@@ -10,14 +10,15 @@ use Rattle.ir_syntax.specs.declared.linkage.Visibility.{Visibility}
 use Rattle.ir_ident.specs.declared.name.Name.{Name}
 use Rattle.ir_ident.specs.declared.name.NameUse.{NameUse}
 use Rattle.ir_syntax.specs.declared.operand.ConstantGep.{ConstantGep}
+use Rattle.ir_words.specs.declared.class.Class.{Class}
 use Rattle.ir_words.specs.declared.class.Class.TheVariants as class
 use Rattle.ir_rules.specs.Leaves.{means}
 use Rattle.ir_rules.specs.Rules.{Rule, ◌▷◌, each, either, made, option, seq, within}
 use Rattle.ir_attributes.specs.Attributes.{alignments, attachment, later}
 use Rattle.ir_calls.specs.Calls.{parameter_types}
 use Rattle.ir_types.specs.Types.{result_types, types}
-use Rattle.ir_values.specs.Values.{constant_geps, global_uses}
-use Rattle.ir_globals.specs.Heads.{linkage, local_linkage, mark_words, visibility}
+use Rattle.ir_values.specs.Values.{constant_geps, global_classes, global_uses}
+use Rattle.ir_globals.specs.Heads.{linkage, local_linkage, mark_firsts, visibility}
 use Rattle.ir_inits.specs.Initialisers.{inits}
 use Rattle.ir_globals.specs.declared.defined.Defined.{Defined}
 use Rattle.ir_globals.specs.declared.defined.Defined.TheVariants.{Variable, SecondName}
@@ -30,15 +31,18 @@ unfoldable pub variable_tail_forms : Rule (Option ℕ)
 variable_tail_forms =
     either (class.Comma ▷ either (made (λ (n : ℕ). Some n) alignments) (made (λ (u : Unit {0}). None) attachment)) (means class.Attr None)
 
+abbrev pub variable_tail_firsts : List Class
+variable_tail_firsts = class.Comma ∷ class.Attr ∷ []
+
 abbrev pub variable_tail : Rule (Option ℕ)
-variable_tail = within (class.Comma ∷ class.Attr ∷ []) [] false variable_tail_forms
+variable_tail = within variable_tail_firsts [] false variable_tail_forms
 
 -- gtail*, with the last alignment among them
 unfoldable pub variable_tails_forms : Rule (Option ℕ)
 variable_tails_forms = made (λ (found : List (Option ℕ)). fold later None found) (each variable_tail)
 
 abbrev pub variable_tails : Rule (Option ℕ)
-variable_tails = within (class.Comma ∷ class.Attr ∷ []) (class.Comma ∷ class.Attr ∷ []) true variable_tails_forms
+variable_tails = within variable_tail_firsts variable_tail_firsts true variable_tails_forms
 
 -- "global" | "constant"
 abbrev pub is_constant : Rule Bool
@@ -55,14 +59,14 @@ unfoldable pub declared_forms : Rule Defined
 declared_forms = made declared_of (seq is_constant (seq (types 64) variable_tails))
 
 abbrev pub declared_variables : Rule Defined
-declared_variables = within (class.GlobalWord ∷ class.Constant ∷ []) (class.Comma ∷ class.Attr ∷ []) false declared_forms
+declared_variables = within is_constant.firsts variable_tail_firsts false declared_forms
 
 -- ("global"|"constant") type init gtail*
 unfoldable pub variable_forms : Rule Defined
 variable_forms = made variable_of (seq is_constant (seq (types 64) (seq (inits 64) variable_tails)))
 
 abbrev pub variables : Rule Defined
-variables = within (class.GlobalWord ∷ class.Constant ∷ []) (class.Comma ∷ class.Attr ∷ []) false variable_forms
+variables = within is_constant.firsts variable_tail_firsts false variable_forms
 
 -- cgep
 abbrev pub base_addresses : Rule AliasBase
@@ -109,7 +113,7 @@ unfoldable pub definition_forms : Rule GlobalDefinition
 definition_forms = either external_definitions local_definitions
 
 abbrev pub definitions : Rule GlobalDefinition
-definitions = within (class.External ∷ class.Private ∷ class.Internal ∷ class.GlobalWord ∷ class.Constant ∷ class.Alias ∷ mark_words) (class.Comma ∷ class.Attr ∷ []) false definition_forms
+definitions = within (class.External ∷ class.Private ∷ class.Internal ∷ class.GlobalWord ∷ class.Constant ∷ class.Alias ∷ mark_firsts) variable_tail_firsts false definition_forms
 
 -- the item on a line, of a name
 abbrev pub defined_entity : ℕ → Name → Linkage → Visibility → Defined → Entity
@@ -146,4 +150,4 @@ unfoldable pub global_entity_forms : Rule (Option Entity)
 global_entity_forms = made entity_of_global (seq global_uses (class.Equal ▷ definitions))
 
 abbrev pub global_entities : Rule (Option Entity)
-global_entities = within (class.Global ∷ class.MetadataIntrinsic ∷ class.DroppedIntrinsic ∷ class.Intrinsic ∷ []) (class.Comma ∷ class.Attr ∷ []) false global_entity_forms
+global_entities = within global_classes variable_tail_firsts false global_entity_forms

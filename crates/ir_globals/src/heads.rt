@@ -1,12 +1,12 @@
 //! What stands before a global's type or a function's result: who sees it, and how (LangRef,
 //! "Linkage Types" and "Visibility Styles").
-ghost use Rattle.std.specs.Prelude.{◌≡◌};
-ghost use Rattle.ir_globals.specs.Heads.{addresses, later_seen, linkage, local_linkage, mark_words, marks, styles, visibility};
+ghost use Rattle.std.specs.Prelude.{◌≡◌, ◌++◌};
+ghost use Rattle.ir_globals.specs.Heads.{address_firsts, addresses, later_seen, linkage, local_linkage, mark_firsts, marks, style_firsts, styles, visibility};
 ghost use Rattle.ir_rules.specs.Reading.{GivesExactly};
 ghost use Rattle.ir_rules.specs.Rules.{has};
 
-use ir_calls::skip_convention;
-use ir_rules::{End, bad};
+use ir_calls::{is_convention, skip_convention};
+use ir_rules::{Element, End, Fold, bad, fold_each};
 use ir_syntax::{Linkage, Visibility};
 use ir_words::{Class, Cursor};
 
@@ -88,9 +88,9 @@ fn read_mark<'t>(rest: Cursor<'t>) -> Result<(Option<Visibility>, Cursor<'t>), E
     }
 }
 
-/// Whether a token is one of those words.
-fn is_mark(class: Class) -> bool
-    ensures { result ≡ has mark_words class }
+/// Whether a token of a class is a visibility, or a word on the address.
+fn is_style_or_address(class: Class) -> bool
+    ensures { result ≡ has (style_firsts ++ address_firsts) class }
 {
     matches!(
         class,
@@ -102,10 +102,14 @@ fn is_mark(class: Class) -> bool
             | Class::UnnamedAddr
             | Class::LocalUnnamedAddr
             | Class::ExternallyInitialized
-            | Class::Ccc
-            | Class::Fastcc
-            | Class::Coldcc
     )
+}
+
+/// Whether a token of a class is one of those words.
+fn is_mark(class: Class) -> bool
+    ensures { result ≡ has mark_firsts class }
+{
+    is_style_or_address(class) | is_convention(class)
 }
 
 /// The visibility after one more word: the last one counts.
@@ -115,21 +119,44 @@ fn later_seen(before: Visibility, found: Option<Visibility>) -> Visibility
     found.unwrap_or(before)
 }
 
+/// The reader of one of those words.
+#[derive(Drop)]
+struct MarkReader;
+
+impl Element for MarkReader {
+    type Tree = Option<Visibility>;
+
+    ghost rule = { λ _. marks };
+
+    ghost takes_memory = { ⊥ };
+
+    fn begins(&self, class: Class) -> bool {
+        is_mark(class)
+    }
+
+    fn read<'t>(&self, rest: Cursor<'t>) -> Result<(Option<Visibility>, Cursor<'t>), End> {
+        read_mark(rest)
+    }
+}
+
+impl Fold for MarkReader {
+    type All = Visibility;
+
+    ghost next = { later_seen };
+
+    fn next(&self, all: Visibility, tree: Option<Visibility>) -> Visibility {
+        later_seen(all, tree)
+    }
+}
+
 /// Reads those words in any number; of several visibilities the last one counts.
 ///
 /// # Errors
 ///
 /// None: at the first token that is none of the words it ends.
-#[tactic(auto, unfolding(crate::specs::Heads::visibility_forms))]
+#[tactic(auto, using(crate::proofs::HeadLaws::marks_law), unfolding(crate::specs::Heads::visibility_forms))]
 pub fn read_visibility<'t>(rest: Cursor<'t>) -> Result<(Visibility, Cursor<'t>), End>
     ensures { GivesExactly (λ x. x) result (visibility.read rest.entry) }
 {
-    let mut rest = rest;
-    let mut seen = Visibility::Default;
-    while is_mark(rest.first()) {
-        let (found, after) = read_mark(rest)?;
-        seen = later_seen(seen, found);
-        rest = after;
-    }
-    Ok((seen, rest))
+    fold_each(&MarkReader, Visibility::Default, rest)
 }

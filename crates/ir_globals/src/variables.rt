@@ -1,5 +1,6 @@
 //! Global variables and aliases (LangRef, "Global Variables" and "Aliases").
-ghost use Rattle.std.specs.Prelude.{◌≡◌, [], ◌∷◌};
+ghost use Rattle.ir_attributes.specs.Attributes.{later};
+ghost use Rattle.std.specs.Prelude.{◌≡◌};
 ghost use Rattle.ir_globals.specs.Variables.{alias_bases, aliases, base_addresses, declared_variables, defined_here, external_definitions, global_entities, is_constant, local_definitions, pointer_bases, definitions, variable_tail, variable_tails, variables};
 ghost use Rattle.ir_rules.specs.Reading.{Gives, GivesExactly};
 ghost use Rattle.ir_rules.specs.Rules.{has};
@@ -11,7 +12,7 @@ use ir_attributes::{later, read_alignment, read_attachment};
 use ir_calls::read_parameter_types;
 use ir_entities::Entity;
 use ir_inits::read_init;
-use ir_rules::{End, word};
+use ir_rules::{Element, End, Fold, fold_each, word};
 use ir_syntax::{AliasBase, Linkage};
 use ir_types::{read_result_type, read_type};
 use ir_values::{read_constant_gep, read_global_use};
@@ -38,26 +39,42 @@ fn read_variable_tail<'t>(rest: Cursor<'t>) -> Result<(Option<u64>, Cursor<'t>),
     }
 }
 
-/// Whether a token begins one of those.
-fn begins_tail(class: Class) -> bool
-    ensures { result ≡ has (Classes.Comma ∷ Classes.Attr ∷ []) class }
-{
-    matches!(class, Class::Comma | Class::Attr)
+/// The reader of one of those.
+#[derive(Drop)]
+struct VariableTailReader;
+
+impl Element for VariableTailReader {
+    type Tree = Option<u64>;
+
+    ghost rule = { λ _. variable_tail };
+
+    ghost takes_memory = { ⊥ };
+
+    fn begins(&self, class: Class) -> bool {
+        matches!(class, Class::Comma | Class::Attr)
+    }
+
+    fn read<'t>(&self, rest: Cursor<'t>) -> Result<(Option<u64>, Cursor<'t>), End> {
+        read_variable_tail(rest)
+    }
+}
+
+impl Fold for VariableTailReader {
+    type All = Option<u64>;
+
+    ghost next = { later };
+
+    fn next(&self, all: Option<u64>, tree: Option<u64>) -> Option<u64> {
+        later(all, tree)
+    }
 }
 
 /// Reads those in any number: the last alignment among them.
-#[tactic(auto, unfolding(crate::specs::Variables::variable_tails_forms))]
+#[tactic(auto, using(crate::proofs::VariableLaws::variable_tail_law), unfolding(crate::specs::Variables::variable_tails_forms))]
 fn read_variable_tails<'t>(rest: Cursor<'t>) -> Result<(Option<u64>, Cursor<'t>), End>
     ensures { GivesExactly (λ x. x) result (variable_tails.read rest.entry) }
 {
-    let mut rest = rest;
-    let mut align = None;
-    while begins_tail(rest.first()) {
-        let (found, after) = read_variable_tail(rest)?;
-        align = later(align, found);
-        rest = after;
-    }
-    Ok((align, rest))
+    fold_each(&VariableTailReader, None, rest)
 }
 
 /// Reads `global` or `constant`: whether it is the second.

@@ -7,9 +7,10 @@ use Rattle.ir_syntax.specs.declared.operand.ConstantGep.{ConstantGep}
 use Rattle.ir_syntax.specs.declared.operand.Operand.{Operand}
 use Rattle.ir_syntax.specs.declared.operand.Operand.TheVariants.{Gep}
 use Rattle.ir_words.specs.declared.class.Class.TheVariants as class
+use Rattle.ir_rules.specs.Laws.{Lawful}
 use Rattle.ir_rules.specs.Rules.{commas}
 use Rattle.ir_rules.proofs.Derived.{commas_lawful}
-use Rattle.ir_rules.proofs.Laws.{Lawful, either_lawful, made_lawful, seq_lawful, within_lawful}
+use Rattle.ir_rules.proofs.Laws.{either_lawful, made_lawful, seq_lawful, within_lawful}
 use Rattle.ir_rules.proofs.Leaves.{leaf_lawful}
 use Rattle.ir_rules.proofs.Examples.{example}
 use Rattle.ir_rules.proofs.Words.{after_law, before_law, means_law}

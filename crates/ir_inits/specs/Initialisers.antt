@@ -9,11 +9,11 @@ use Rattle.ir_syntax.specs.declared.init.TypedInit.{TypedInit}
 use Rattle.ir_syntax.specs.declared.operand.ConstantGep.{ConstantGep}
 use Rattle.ir_syntax.specs.declared.operand.Operand.{Operand}
 use Rattle.ir_syntax.specs.declared.operand.Operand.TheVariants.{Gep}
-use Rattle.ir_words.specs.declared.class.Class.TheVariants.{CStr, CloseCurly, ClosePacked, CloseSquare, DroppedIntrinsic, False, Getelementptr, Global, Int, Intrinsic, Local, MetadataIntrinsic, Null, OpenCurly, OpenPacked, OpenSquare, Poison, True, Undef, Zeroinitializer}
+use Rattle.ir_words.specs.declared.class.Class.TheVariants.{CStr, CloseCurly, ClosePacked, CloseSquare, Getelementptr, OpenCurly, OpenPacked, OpenSquare, Zeroinitializer}
 use Rattle.ir_rules.specs.Leaves.{leaf, means}
 use Rattle.ir_rules.specs.Rules.{Rule, ◌▷◌, ◌◁◌, commas, either, made, seq, within}
 use Rattle.ir_types.specs.Types.{type_firsts, types}
-use Rattle.ir_values.specs.Values.{constant_geps, scalars}
+use Rattle.ir_values.specs.Values.{constant_geps, scalar_firsts, scalars}
 
 -- what stands between the quotes of `c"..."`
 abbrev pub characters_of : List ℕ → List ℕ
@@ -28,11 +28,10 @@ unfoldable pub plain_forms : Rule InitText
 plain_forms = either (means Zeroinitializer zeros) (either (made (λ (b : List ℕ). bytes b) character_arrays) (made (λ (o : Operand). value o) scalars))
 
 abbrev pub plain_inits : Rule InitText
-plain_inits = within (Zeroinitializer ∷ CStr ∷ Local ∷ Global ∷ MetadataIntrinsic ∷ DroppedIntrinsic ∷ Intrinsic ∷ Int ∷ True ∷ False ∷ Null ∷ Undef ∷ Poison ∷ []) [] false plain_forms
+plain_inits = within (Zeroinitializer ∷ CStr ∷ scalar_firsts) [] false plain_forms
 
 abbrev pub of_inits : Rule InitText → Rule InitText
-of_inits r = within (OpenSquare ∷ OpenCurly ∷ OpenPacked ∷ Getelementptr ∷ Zeroinitializer ∷ CStr
-    ∷ Local ∷ Global ∷ MetadataIntrinsic ∷ DroppedIntrinsic ∷ Intrinsic ∷ Int ∷ True ∷ False ∷ Null ∷ Undef ∷ Poison ∷ []) [] false r
+of_inits r = within (OpenSquare ∷ OpenCurly ∷ OpenPacked ∷ Getelementptr ∷ Zeroinitializer ∷ CStr ∷ scalar_firsts) [] false r
 
 abbrev pub part_of : TextTree × InitText → TypedInit
 part_of z = record { ty = z.0; init = z.1 }

@@ -1,3 +1,2 @@
-pub mod IndexSteps
 pub mod OperationLaws
 pub mod TailLaws

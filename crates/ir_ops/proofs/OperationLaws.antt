@@ -1,55 +1,29 @@
 -- The rules of operations on memory, and of all operations, keep the laws.
-use Rattle.std.proofs.Common.{◌≡◌, Bool, true, false, List, [], ◌∷◌, Some, None, refl}
-use Rattle.std.specs.Prelude.{Option, filter_map}
-use Rattle.ir_syntax.specs.declared.operand.TypedOperand.{TypedOperand}
+use Rattle.std.proofs.Common.{false, true, [], refl}
 use Rattle.ir_words.specs.declared.class.Class.TheVariants as class
-use Rattle.ir_rules.specs.Rules.{all_in}
-use Rattle.ir_rules.proofs.Chains.{chain_lawful}
-use Rattle.ir_rules.proofs.Laws.{Lawful, either_lawful, made_lawful, seq_lawful, within_lawful}
+use Rattle.ir_rules.specs.Laws.{Lawful}
+use Rattle.ir_rules.proofs.Laws.{either_lawful, made_lawful, seq_lawful, within_lawful}
 use Rattle.ir_rules.proofs.Leaves.{ending_lawful}
 use Rattle.ir_rules.proofs.Words.{before_law, flag_law}
-use Rattle.ir_ops.specs.Operations.{alloca_forms, alloca_of, allocas, entry_op_forms, entry_ops, gep_forms, gep_of, geps, index_forms, index_list_forms, index_lists, index_tail, is_index, kept, load_forms, load_of, loads, memory_op_forms, memory_ops, plain_op_forms, plain_ops, store_forms, store_of, stores}
-use Rattle.ir_attributes.proofs.AttributeLaws.{attachment_law, attachments_law}
+use Rattle.ir_ops.specs.Operations.{alloca_forms, alloca_of, allocas, entry_op_forms, entry_ops, gep_forms, gep_of, geps, some_op, load_forms, load_of, loads, memory_op_forms, memory_ops, plain_op_forms, plain_ops, store_forms, store_of, stores}
+use Rattle.ir_attributes.proofs.AttributeLaws.{attachments_law}
+use Rattle.ir_attributes.proofs.ItemLaws.{items_law}
+use Rattle.ir_attributes.specs.Items.{items}
 use Rattle.ir_calls.proofs.CallLaws.{calls_law}
 use Rattle.ir_ops.proofs.TailLaws.{align_tail_law, alloca_tail_law}
 use Rattle.ir_types.proofs.TypeLaws.{types_law}
+use Rattle.ir_values.specs.Values.{typed_operands}
 use Rattle.ir_values.proofs.ValueLaws.{typed_operands_law}
 use Rattle.ir_value_ops.proofs.ValueOpLaws.{value_ops_law}
 
-pub index_tail_law : (before : Bool) → Lawful (index_tail before)
-unfolding index_tail index_forms
-index_tail_law true =
-    within_lawful _ _ _ _ (before_law class.Comma _ refl refl (either_lawful _ _ (made_lawful (λ (u : Unit {0}). None) _ attachment_law)
-    (made_lawful (λ (o : TypedOperand). Some o) _ typed_operands_law) refl refl)) refl refl refl
-index_tail_law false = within_lawful _ _ _ _ (before_law class.Comma _ refl refl (made_lawful (λ (u : Unit {0}). None) _ attachment_law)) refl refl refl
-
--- the sets of both states are the same
-pub index_empty : (before : Bool) → (index_tail before).nullable ≡ false
-unfolding index_tail
-index_empty true = refl
-index_empty false = refl
-
-index_firsts : (before : Bool) → all_in (index_tail before).firsts (class.Comma ∷ []) ≡ true
-unfolding index_tail
-index_firsts true = refl
-index_firsts false = refl
-
-index_flast : (before : Bool) → all_in (index_tail before).flast [] ≡ true
-unfolding index_tail
-index_flast true = refl
-index_flast false = refl
-
-pub index_lists_law : Lawful index_lists
-unfolding index_list_forms
-index_lists_law =
-    within_lawful _ _ _ _ (made_lawful (λ (found : List (Option TypedOperand)). filter_map (λ o. o) found) _
-    (chain_lawful (class.Comma ∷ []) [] index_tail is_index index_tail_law index_empty index_firsts index_flast refl true)) refl refl refl
+pub index_items_law : Lawful (items typed_operands)
+index_items_law = items_law typed_operands typed_operands_law refl refl refl
 
 geps_law : Lawful geps
 unfolding gep_forms
 geps_law =
     within_lawful _ _ _ _ (made_lawful gep_of _ (before_law class.Getelementptr _ refl refl (seq_lawful _ _ (flag_law class.Inbounds refl refl)
-    (seq_lawful _ _ (types_law 64) (seq_lawful _ _ (before_law class.Comma _ refl refl typed_operands_law) index_lists_law refl) refl) refl))) refl refl refl
+    (seq_lawful _ _ (types_law 64) (seq_lawful _ _ (before_law class.Comma _ refl refl typed_operands_law) index_items_law refl) refl) refl))) refl refl refl
 
 loads_law : Lawful loads
 unfolding load_forms
@@ -75,10 +49,10 @@ pub plain_ops_law : Lawful plain_ops
 unfolding plain_op_forms
 plain_ops_law =
     within_lawful _ _ _ _
-    (either_lawful _ _ (made_lawful kept _ (ending_lawful _ _ value_ops_law attachments_law refl))
-    (either_lawful _ _ (made_lawful kept _ memory_ops_law) (ending_lawful _ _ calls_law attachments_law refl) refl refl) refl refl)
+    (either_lawful _ _ (made_lawful some_op _ (ending_lawful _ _ value_ops_law attachments_law refl))
+    (either_lawful _ _ (made_lawful some_op _ memory_ops_law) (ending_lawful _ _ calls_law attachments_law refl) refl refl) refl refl)
     refl refl refl
 
 pub entry_ops_law : Lawful entry_ops
 unfolding entry_op_forms
-entry_ops_law = within_lawful _ _ _ _ (either_lawful _ _ (made_lawful kept _ allocas_law) plain_ops_law refl refl) refl refl refl
+entry_ops_law = within_lawful _ _ _ _ (either_lawful _ _ (made_lawful some_op _ allocas_law) plain_ops_law refl refl) refl refl refl

@@ -3,7 +3,8 @@ use Rattle.std.proofs.Common.{◌≡◌, ℕ, Some, None, refl}
 use Rattle.std.specs.Prelude.{Option}
 use Rattle.ir_syntax.specs.declared.operand.TypedLiteral.{TypedLiteral}
 use Rattle.ir_words.specs.declared.class.Class.TheVariants as class
-use Rattle.ir_rules.proofs.Laws.{Lawful, either_lawful, made_lawful, nothing_lawful, seq_lawful, within_lawful}
+use Rattle.ir_rules.specs.Laws.{Lawful}
+use Rattle.ir_rules.proofs.Laws.{either_lawful, made_lawful, nothing_lawful, seq_lawful, within_lawful}
 use Rattle.ir_rules.proofs.Leaves.{ending_lawful, leading_lawful}
 use Rattle.ir_rules.proofs.Words.{before_law}
 use Rattle.ir_ops.specs.Tails.{align_tail, align_tail_forms, aligned, aligned_forms, alloca_tail, alloca_tail_forms, counted, counted_forms}

@@ -1,46 +1,27 @@
 -- Operations (LangRef, "Instruction Reference"): those on memory, and which may stand in a block.
-use Rattle.std.specs.Prelude.{ℕ, Option, Some, None, List, [], ◌∷◌, Bool, false, true, not, filter_map}
+use Rattle.std.specs.Prelude.{ℕ, Option, Some, List, [], ◌∷◌, ◌++◌, Bool, false}
 use Rattle.ir_syntax.specs.Types.{TextTree}
 use Rattle.ir_syntax.specs.declared.instr.Op.{Op}
 use Rattle.ir_syntax.specs.declared.instr.Op.TheVariants as operation
 use Rattle.ir_syntax.specs.declared.operand.TypedOperand.{TypedOperand}
-use Rattle.ir_words.specs.declared.class.Class.TheVariants.{Add, Alloca, And, Align, Ashr, Attr, Attribute, Bitcast, Call, Comma, Equal, Freeze, Getelementptr, Icmp, Inbounds, Inttoptr, Load, Lshr, Mul, Notail, OpenRound, Or, Ptrtoint, Sdiv, Select, Sext, Shl, Srem, Store, Str, Sub, Tail, Trunc, Udiv, Urem, Xor, Zext}
+use Rattle.ir_words.specs.declared.class.Class.{Class}
+use Rattle.ir_words.specs.declared.class.Class.TheVariants.{Alloca, Comma, Getelementptr, Inbounds, Load, Store}
 use Rattle.ir_rules.specs.Leaves.{ending, flag}
-use Rattle.ir_rules.specs.Rules.{Rule, ◌▷◌, chain, either, made, seq, within}
-use Rattle.ir_attributes.specs.Attributes.{attachment, attachments}
-use Rattle.ir_calls.specs.Calls.{calls}
-use Rattle.ir_value_ops.specs.ValueOps.{value_ops}
+use Rattle.ir_rules.specs.Rules.{Rule, ◌▷◌, either, made, seq, within}
+use Rattle.ir_attributes.specs.Attributes.{attachments, attribute_flast}
+use Rattle.ir_attributes.specs.Items.{items}
+use Rattle.ir_calls.specs.Calls.{call_firsts, calls}
+use Rattle.ir_value_ops.specs.ValueOps.{value_firsts, value_ops}
 use Rattle.ir_ops.specs.Tails.{Allocation, align_tail, alloca_tail}
 use Rattle.ir_types.specs.Types.{types}
 use Rattle.ir_values.specs.Values.{typed_operands}
-
--- behind an address: an index, or metadata
-unfoldable pub index_forms : Rule (Option TypedOperand)
-index_forms = Comma ▷ either (made (λ (u : Unit {0}). None) attachment) (made (λ (o : TypedOperand). Some o) typed_operands)
-
--- after metadata no index stands
-unfoldable pub index_tail : Bool → Rule (Option TypedOperand)
-index_tail true = within (Comma ∷ []) [] false index_forms
-index_tail false = within (Comma ∷ []) [] false (Comma ▷ made (λ (u : Unit {0}). None) attachment)
-
-abbrev pub is_index : Bool → Option TypedOperand → Bool
-is_index before None = false
-is_index before (Some o) = before
-
--- (, type value)* md*
-unfoldable pub index_list_forms : Rule (List TypedOperand)
-index_list_forms = made (λ (found : List (Option TypedOperand)). filter_map (λ o. o) found)
-    (chain (Comma ∷ []) [] index_tail is_index true)
-
-abbrev pub index_lists : Rule (List TypedOperand)
-index_lists = within (Comma ∷ []) (Comma ∷ []) true index_list_forms
 
 abbrev pub gep_of : Bool × (TextTree × (TypedOperand × List TypedOperand)) → Op
 gep_of z = operation.Gep z.0 z.1.0 z.1.1.0.ty z.1.1.0.value z.1.1.1
 
 -- "getelementptr" ["inbounds"] type , type value (, type value)* md*
 unfoldable pub gep_forms : Rule Op
-gep_forms = made gep_of (Getelementptr ▷ seq (flag Inbounds) (seq (types 64) (seq (Comma ▷ typed_operands) index_lists)))
+gep_forms = made gep_of (Getelementptr ▷ seq (flag Inbounds) (seq (types 64) (seq (Comma ▷ typed_operands) (items typed_operands))))
 
 abbrev pub geps : Rule Op
 geps = within (Getelementptr ∷ []) (Comma ∷ []) false gep_forms
@@ -79,27 +60,34 @@ allocas = within (Alloca ∷ []) (Comma ∷ []) false alloca_forms
 unfoldable pub memory_op_forms : Rule Op
 memory_op_forms = either geps (either loads stores)
 
-abbrev pub memory_ops : Rule Op
-memory_ops = within (Getelementptr ∷ Load ∷ Store ∷ []) (Comma ∷ []) false memory_op_forms
+abbrev pub memory_firsts : List Class
+memory_firsts = Getelementptr ∷ Load ∷ Store ∷ []
 
-abbrev pub kept : Op → Option Op
-kept op = Some op
+abbrev pub memory_ops : Rule Op
+memory_ops = within memory_firsts (Comma ∷ []) false memory_op_forms
+
+abbrev pub some_op : Op → Option Op
+some_op op = Some op
 
 -- op md*, in a block where `alloca` may not stand; nothing of a dropped call
 unfoldable pub plain_op_forms : Rule (Option Op)
 plain_op_forms =
-    either (made kept (ending value_ops attachments)) (either (made kept memory_ops) (ending calls attachments))
+    either (made some_op (ending value_ops attachments)) (either (made some_op memory_ops) (ending calls attachments))
+
+-- the first words of operations that may stand in any block
+abbrev pub op_firsts : List Class
+op_firsts = value_firsts ++ memory_firsts ++ call_firsts
+
+-- the tokens that may go on behind an operation
+abbrev pub op_flast : List Class
+op_flast = Comma ∷ attribute_flast
 
 abbrev pub plain_ops : Rule (Option Op)
-plain_ops = within (Add ∷ Sub ∷ Mul ∷ Shl ∷ Udiv ∷ Sdiv ∷ Lshr ∷ Ashr ∷ Urem ∷ Srem ∷ And ∷ Or ∷ Xor ∷ Icmp ∷ Select
-    ∷ Trunc ∷ Zext ∷ Sext ∷ Ptrtoint ∷ Inttoptr ∷ Bitcast ∷ Freeze ∷ Getelementptr ∷ Load ∷ Store ∷ Tail ∷ Notail ∷ Call ∷ [])
-    (Comma ∷ OpenRound ∷ Equal ∷ Attribute ∷ Align ∷ Str ∷ Attr ∷ []) false plain_op_forms
+plain_ops = within op_firsts op_flast false plain_op_forms
 
 -- op md*, in the first block
 unfoldable pub entry_op_forms : Rule (Option Op)
-entry_op_forms = either (made kept allocas) plain_ops
+entry_op_forms = either (made some_op allocas) plain_ops
 
 abbrev pub entry_ops : Rule (Option Op)
-entry_ops = within (Alloca ∷ Add ∷ Sub ∷ Mul ∷ Shl ∷ Udiv ∷ Sdiv ∷ Lshr ∷ Ashr ∷ Urem ∷ Srem ∷ And ∷ Or ∷ Xor ∷ Icmp ∷ Select
-    ∷ Trunc ∷ Zext ∷ Sext ∷ Ptrtoint ∷ Inttoptr ∷ Bitcast ∷ Freeze ∷ Getelementptr ∷ Load ∷ Store ∷ Tail ∷ Notail ∷ Call ∷ [])
-    (Comma ∷ OpenRound ∷ Equal ∷ Attribute ∷ Align ∷ Str ∷ Attr ∷ []) false entry_op_forms
+entry_ops = within (Alloca ∷ op_firsts) op_flast false entry_op_forms

@@ -1,10 +1,11 @@
 -- What may stand after a comma behind an operation: an alignment, or metadata to its end.
 use Rattle.std.specs.Prelude.{ℕ, Option, Some, None, [], ◌∷◌, false, true}
 use Rattle.ir_syntax.specs.declared.operand.TypedLiteral.{TypedLiteral}
-use Rattle.ir_words.specs.declared.class.Class.TheVariants.{Align, Comma, Meta, OpenSquare, OpenCurly, OpenPacked, IntType, Ptr, Local}
+use Rattle.ir_words.specs.declared.class.Class.TheVariants.{Align, Comma, Meta}
 use Rattle.ir_rules.specs.Leaves.{ending, leading}
 use Rattle.ir_rules.specs.Rules.{Rule, ◌▷◌, either, made, nothing, seq, within}
 use Rattle.ir_attributes.specs.Attributes.{alignments, attachment, attachments}
+use Rattle.ir_types.specs.Types.{type_firsts}
 use Rattle.ir_values.specs.Values.{typed_literals}
 
 -- "align" INT md* | META META md*
@@ -34,7 +35,7 @@ counted_forms =
     (made (λ (z : TypedLiteral × Option ℕ). (Some z.0, z.1)) (seq (typed_literals 64) align_tail))
 
 abbrev pub counted : Rule Allocation
-counted = within (Align ∷ Meta ∷ OpenSquare ∷ OpenCurly ∷ OpenPacked ∷ IntType ∷ Ptr ∷ Local ∷ []) (Comma ∷ []) false counted_forms
+counted = within (Align ∷ Meta ∷ type_firsts) (Comma ∷ []) false counted_forms
 
 -- [, type INT] [, "align" INT] md*
 unfoldable pub alloca_tail_forms : Rule Allocation

@@ -1,12 +1,12 @@
 //! Which operation it is, by its first word.
 ghost use Rattle.std.specs.Prelude.{◌≡◌};
-ghost use Rattle.ir_ops.specs.Operations.{entry_ops, memory_ops, plain_ops};
+ghost use Rattle.ir_ops.specs.Operations.{entry_ops, memory_firsts, memory_ops, op_firsts, plain_ops};
 ghost use Rattle.ir_rules.specs.Reading.{Gives};
 ghost use Rattle.ir_rules.specs.Rules.{has};
 
 use crate::memory::{read_alloca, read_gep, read_load, read_store};
 use ir_attributes::skip_attachments;
-use ir_calls::read_call;
+use ir_calls::{begins_call, read_call};
 use ir_rules::End;
 use ir_syntax::Op;
 use ir_value_ops::{begins_value_op, read_value_op};
@@ -15,9 +15,16 @@ use std::alloc::Global;
 
 /// Whether a token of this class begins an operation on memory.
 fn begins_memory_op(class: Class) -> bool
-    ensures { result ≡ has memory_ops.firsts class }
+    ensures { result ≡ has memory_firsts class }
 {
     matches!(class, Class::Getelementptr | Class::Load | Class::Store)
+}
+
+/// Whether a token of this class begins an operation that may stand in any block.
+pub fn begins_op(class: Class) -> bool
+    ensures { result ≡ has op_firsts class }
+{
+    begins_value_op(class) | begins_memory_op(class) | begins_call(class)
 }
 
 /// Reads an operation on memory, and what metadata stands behind it.

@@ -8,4 +8,4 @@ mod indices;
 mod memory;
 mod tails;
 
-pub use choice::{read_entry_op, read_plain_op};
+pub use choice::{begins_op, read_entry_op, read_plain_op};

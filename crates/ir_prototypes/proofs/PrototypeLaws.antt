@@ -4,9 +4,10 @@ use Rattle.std.specs.Prelude.{Option}
 use Rattle.ir_syntax.specs.Types.{TextTree}
 use Rattle.ir_words.specs.Intrinsics.{begins_with, global_class, global_name, intrinsic_class, name_class}
 use Rattle.ir_words.specs.declared.class.Class.TheVariants as class
+use Rattle.ir_rules.specs.Laws.{Lawful}
 use Rattle.ir_rules.specs.Rules.{◌▷◌, apart}
 use Rattle.ir_rules.proofs.Derived.{commas_lawful, option_lawful}
-use Rattle.ir_rules.proofs.Laws.{Lawful, either_lawful, made_lawful, seq_lawful, within_lawful}
+use Rattle.ir_rules.proofs.Laws.{either_lawful, made_lawful, seq_lawful, within_lawful}
 use Rattle.ir_rules.proofs.Leaves.{leading_lawful, leaf_lawful, lined_lawful}
 use Rattle.ir_rules.proofs.Examples.{example}
 use Rattle.ir_rules.proofs.Words.{after_law, before_law, means_law, word_law}
@@ -37,10 +38,9 @@ pub params_in_law : (metadata : Bool) → Lawful (params_in metadata)
 params_in_law true = metadata_params_law
 params_in_law false = params_law
 
--- no parameter goes on with a comma
-pub next_flast : (metadata : Bool) → apart (class.Comma ▷ params_in metadata).flast (class.Comma ∷ []) ≡ true
-next_flast true = refl
-next_flast false = refl
+pub params_in_some : (metadata : Bool) → (params_in metadata).nullable ≡ false
+params_in_some true = refl
+params_in_some false = refl
 
 bracketed_law : Lawful (bracketed params)
 bracketed_law = before_law class.OpenRound _ refl refl (after_law _ class.CloseRound refl refl (commas_lawful _ params_law refl refl refl) refl)

@@ -1,6 +1,6 @@
 -- What a function says before its body: its result, its name, its parameters and what stands behind
 -- them (LangRef, "Functions").
-use Rattle.std.specs.Prelude.{ℕ, Option, Some, None, List, [], ◌∷◌, Bool, true, false}
+use Rattle.std.specs.Prelude.{ℕ, Option, Some, None, List, [], ◌∷◌, ◌++◌, Bool, true, false}
 use Rattle.ir_syntax.specs.Types.{TextTree}
 use Rattle.ir_syntax.specs.declared.function.Param.{Param}
 use Rattle.ir_syntax.specs.declared.linkage.Visibility.{Visibility}
@@ -11,10 +11,11 @@ use Rattle.ir_words.specs.declared.class.Class.{Class}
 use Rattle.ir_words.specs.declared.class.Class.TheVariants as class
 use Rattle.ir_rules.specs.Leaves.{leading, lined, means}
 use Rattle.ir_rules.specs.Rules.{Rule, ◌▷◌, ◌◁◌, commas, either, made, option, seq, within, word}
-use Rattle.ir_attributes.specs.Attributes.{an_attribute, attachment, attributes}
-use Rattle.ir_types.specs.Types.{local_names, result_types, types}
-use Rattle.ir_values.specs.Values.{global_uses, global_uses_in}
-use Rattle.ir_globals.specs.Heads.{mark_words, visibility}
+use Rattle.ir_attributes.specs.Attributes.{an_attribute, attachment, attribute_firsts, attribute_flast, attributes}
+use Rattle.ir_calls.specs.Calls.{metadata_or_type_firsts}
+use Rattle.ir_types.specs.Types.{local_names, result_types, type_firsts, types}
+use Rattle.ir_values.specs.Values.{global_classes, global_uses, global_uses_in}
+use Rattle.ir_globals.specs.Heads.{mark_firsts, visibility}
 use Rattle.ir_prototypes.specs.declared.prototype.Prototype.{Prototype}
 
 abbrev pub name_of_param : Option (ℕ × Name) → Name
@@ -32,26 +33,26 @@ param_of z = record { line = z.0; ty = z.1.0; name = name_of_param z.1.1.1; name
 unfoldable pub param_name_forms : Rule (Option ℕ × Option (ℕ × Name))
 param_name_forms = seq attributes (option (lined local_names))
 
-abbrev pub param_names : Rule (Option ℕ × Option (ℕ × Name))
-param_names = within (class.Attribute ∷ class.Align ∷ class.Str ∷ class.Attr ∷ class.Local ∷ [])
-    (class.OpenRound ∷ class.Equal ∷ class.Attribute ∷ class.Align ∷ class.Str ∷ class.Attr ∷ class.Local ∷ []) true param_name_forms
-
+-- the tokens that may go on behind a parameter
 abbrev pub param_flast : List Class
-param_flast = class.OpenRound ∷ class.Equal ∷ class.Attribute ∷ class.Align ∷ class.Str ∷ class.Attr ∷ class.Local ∷ []
+param_flast = attribute_flast ++ class.Local ∷ []
+
+abbrev pub param_names : Rule (Option ℕ × Option (ℕ × Name))
+param_names = within (attribute_firsts ++ class.Local ∷ []) param_flast true param_name_forms
 
 -- type attr* [LOCAL]
 unfoldable pub param_forms : Rule Param
 param_forms = made param_of (lined (seq (made (λ (t : TextTree). Some t) (types 64)) param_names))
 
 abbrev pub params : Rule Param
-params = within (class.OpenSquare ∷ class.OpenCurly ∷ class.OpenPacked ∷ class.IntType ∷ class.Ptr ∷ class.Local ∷ []) param_flast false param_forms
+params = within type_firsts param_flast false param_forms
 
 -- (type | "metadata") attr* [LOCAL]
 unfoldable pub metadata_param_forms : Rule Param
 metadata_param_forms = made param_of (lined (seq (either (means class.Metadata None) (made (λ (t : TextTree). Some t) (types 64))) param_names))
 
 abbrev pub metadata_params : Rule Param
-metadata_params = within (class.Metadata ∷ class.OpenSquare ∷ class.OpenCurly ∷ class.OpenPacked ∷ class.IntType ∷ class.Ptr ∷ class.Local ∷ []) param_flast false metadata_param_forms
+metadata_params = within metadata_or_type_firsts param_flast false metadata_param_forms
 
 -- parameters of an intrinsic that only carries metadata, or of another function
 abbrev pub params_in : Bool → Rule Param
@@ -86,7 +87,7 @@ unfoldable pub defined_name_forms : Rule Named
 defined_name_forms = seq global_uses (bracketed params)
 
 abbrev pub defined_names : Rule Named
-defined_names = within (class.Global ∷ class.MetadataIntrinsic ∷ class.DroppedIntrinsic ∷ class.Intrinsic ∷ []) [] false defined_name_forms
+defined_names = within global_classes [] false defined_name_forms
 
 -- visibility, result, and the name with its parameters
 abbrev pub Signature : Type 0
@@ -101,8 +102,7 @@ unfoldable pub signature_forms : Rule Named → Rule Signature
 signature_forms name = seq visibility (leading attributes (seq result_types name))
 
 abbrev pub signature_firsts : List Class
-signature_firsts = class.Attribute ∷ class.Align ∷ class.Str ∷ class.Attr ∷ class.Void ∷ class.OpenSquare ∷ class.OpenCurly ∷ class.OpenPacked
-    ∷ class.IntType ∷ class.Ptr ∷ class.Local ∷ mark_words
+signature_firsts = attribute_firsts ++ class.Void ∷ (type_firsts ++ mark_firsts)
 
 abbrev pub declared_signatures : Rule Signature
 declared_signatures = within signature_firsts [] false (signature_forms declared_names)
@@ -114,12 +114,15 @@ defined_signatures = within signature_firsts [] false (signature_forms defined_n
 unfoldable pub declared_end_forms : Rule (Unit {0})
 declared_end_forms = either (made (λ (n : Option ℕ). tt) an_attribute) (either (word class.UnnamedAddr) (word class.LocalUnnamedAddr))
 
+abbrev pub declared_end_firsts : List Class
+declared_end_firsts = attribute_firsts ++ class.UnnamedAddr ∷ class.LocalUnnamedAddr ∷ []
+
 abbrev pub declared_ends : Rule (Unit {0})
-declared_ends = within (class.Attribute ∷ class.Align ∷ class.Str ∷ class.Attr ∷ class.UnnamedAddr ∷ class.LocalUnnamedAddr ∷ []) (class.OpenRound ∷ class.Equal ∷ []) false declared_end_forms
+declared_ends = within declared_end_firsts (class.OpenRound ∷ class.Equal ∷ []) false declared_end_forms
 
 -- those, or META META
 unfoldable pub defined_end_forms : Rule (Unit {0})
 defined_end_forms = either attachment declared_ends
 
 abbrev pub defined_ends : Rule (Unit {0})
-defined_ends = within (class.Meta ∷ class.Attribute ∷ class.Align ∷ class.Str ∷ class.Attr ∷ class.UnnamedAddr ∷ class.LocalUnnamedAddr ∷ []) (class.OpenRound ∷ class.Equal ∷ []) false defined_end_forms
+defined_ends = within (class.Meta ∷ declared_end_firsts) (class.OpenRound ∷ class.Equal ∷ []) false defined_end_forms

@@ -4,15 +4,16 @@ ghost use Rattle.ir_syntax.specs.Types.{TextTree};
 ghost use Rattle.ir_words.specs.declared.class.Class.TheVariants.{Metadata};
 ghost use Rattle.ir_rules.specs.Leaves.{means};
 ghost use Rattle.ir_rules.specs.Reading.{Gives};
-ghost use Rattle.ir_rules.specs.Rules.{commas, commas_some, either, has, made};
+ghost use Rattle.ir_rules.specs.Rules.{either, made};
 ghost use Rattle.ir_types.specs.Types.{types};
 ghost use Rattle.ir_prototypes.specs.Prototypes.{bracketed, metadata_params, param_names, param_of, params, params_in};
 
 use ir_attributes::read_attributes;
+use ir_calls::begins_metadata_or_type;
 use ir_ident::Name;
-use ir_rules::{End, word};
+use ir_rules::{Element, End, read_commas, word};
 use ir_syntax::{Param, Params, TyText};
-use ir_types::{read_local_name, read_type};
+use ir_types::{begins_type, read_local_name, read_type};
 use ir_words::{Class, Cursor};
 use std::alloc::Global;
 
@@ -105,69 +106,31 @@ fn read_param<'t>(
     }
 }
 
-/// Whether a token of a class begins a parameter of a type.
-fn begins_typed_param(class: Class) -> bool
-    ensures { result ≡ has params.firsts class }
-{
-    matches!(
-        class,
-        Class::OpenSquare
-            | Class::OpenCurly
-            | Class::OpenPacked
-            | Class::IntType
-            | Class::Ptr
-            | Class::Local
-    )
-}
-
-/// Whether a token of a class begins a parameter of a type, or of metadata.
-fn begins_metadata_param(class: Class) -> bool
-    ensures { result ≡ has metadata_params.firsts class }
-{
-    matches!(
-        class,
-        Class::Metadata
-            | Class::OpenSquare
-            | Class::OpenCurly
-            | Class::OpenPacked
-            | Class::IntType
-            | Class::Ptr
-            | Class::Local
-    )
-}
-
-/// Whether a token of a class begins a parameter, which may be of metadata or not.
-fn begins_param(class: Class, metadata: bool) -> bool
-    ensures { result ≡ has (commas_some (params_in metadata)).firsts class }
-{
-    if metadata {
-        begins_metadata_param(class)
-    } else {
-        begins_typed_param(class)
-    }
-}
-
-/// Reads parameters separated by commas, or none.
-fn read_param_list<'t>(
+/// The reader of a parameter, which may be of metadata or not.
+#[derive(Drop)]
+struct ParamReader {
     alloc: Global,
-    rest: Cursor<'t>,
     metadata: bool,
-) -> Result<(Vec<Param>, Cursor<'t>), End>
-    ensures { Gives (λ x. (x.0.items, x.1)) result ((commas (params_in metadata)).read rest.entry) }
-{
-    let mut list = Vec::new(alloc);
-    if !begins_param(rest.first(), metadata) {
-        return Ok((list, rest));
+}
+
+impl Element for ParamReader {
+    type Tree = Param;
+
+    ghost rule = { λ reader. params_in reader.metadata };
+
+    ghost takes_memory = { Unit {0} };
+
+    fn begins(&self, class: Class) -> bool {
+        if self.metadata {
+            begins_metadata_or_type(class)
+        } else {
+            begins_type(class)
+        }
     }
-    let (first, after) = read_param(alloc, rest, metadata)?;
-    list.push(first)?;
-    let mut rest = after;
-    while rest.first() == Class::Comma {
-        let (param, after) = read_param(alloc, rest.skip(), metadata)?;
-        list.push(param)?;
-        rest = after;
+
+    fn read<'t>(&self, rest: Cursor<'t>) -> Result<(Param, Cursor<'t>), End> {
+        read_param(self.alloc, rest, self.metadata)
     }
-    Ok((list, rest))
 }
 
 /// Reads `(`, parameters, and `)`.
@@ -179,7 +142,7 @@ pub(crate) fn read_params<'t>(
     ensures { Gives (λ x. x) result ((bracketed (params_in metadata)).read rest.entry) }
 {
     let rest = word(rest, Class::OpenRound)?;
-    let (list, rest) = read_param_list(alloc, rest, metadata)?;
+    let (list, rest) = read_commas(alloc, &ParamReader { alloc, metadata }, rest)?;
     let rest = word(rest, Class::CloseRound)?;
     Ok((Params::from_vec(list), rest))
 }

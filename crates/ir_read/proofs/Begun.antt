@@ -2,9 +2,9 @@
 use Rattle.std.proofs.Common.{List, [], ◌∷◌, ◌++◌, ap, append_assoc, refl, subst, sym, ◌∙◌}
 use Rattle.std.proofs.lemmas.List.{append-nil}
 use Rattle.ir_words.specs.Lexemes.{Lexeme}
+use Rattle.ir_rules.specs.Laws.{Lawful}
 use Rattle.ir_rules.specs.Reading.{Begins}
 use Rattle.ir_rules.specs.Rules.{Rule, each, made, seq}
-use Rattle.ir_rules.proofs.Laws.{Lawful}
 
 module _ {A : Type 0} (a : Rule A) where
   pub made_begun : {B : Type 0} (f : A → B) (ts : List Lexeme) → Begins a ts → Begins (made f a) ts

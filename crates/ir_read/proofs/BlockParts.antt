@@ -13,8 +13,8 @@ use Rattle.ir_rules.proofs.Sets.{apart_is}
 use Rattle.ir_rules.proofs.Words.{word_law}
 use Rattle.ir_body.specs.Blocks.{blocks}
 use Rattle.ir_body.proofs.BlockLaws.{blocks_law}
-use Rattle.ir_read.specs.Entities.{entities, entity_forms, kept_entities, module_forms, modules, nothing_kept, type_defs}
-use Rattle.ir_functions.specs.Functions.{Front, block_lists, closed_block_forms, closed_blocks, declarations, definition_forms, definition_of, definitions, openings}
+use Rattle.ir_read.specs.Entities.{entities, entity_forms, item_entities, module_forms, modules, no_entity, type_defs}
+use Rattle.ir_functions.specs.Functions.{OpeningParts, block_lists, closed_block_forms, closed_blocks, declarations, definition_forms, definition_of, definitions, openings}
 use Rattle.ir_globals.specs.Variables.{global_entities}
 use Rattle.ir_entities.specs.declared.entity.Entity.{Entity}
 use Rattle.ir_read.proofs.Begun.{first_begun, item_begun, made_begun, second_begun}
@@ -38,7 +38,7 @@ module _ {A B : Type 0} (a : Rule A) where
         ap (λ o. o >>= (λ (p : A × List Lexeme). second p)) e ∙ ap (λ o. o >>= (λ (q : B × List Lexeme). Ok ((p.0, q.0), q.1))) f
 
 -- the front of a definition begins with its word
-pub opening_begins : (ts : List Lexeme) (p : Front × List Lexeme) → openings.read ts ≡ Ok p → begins (class.Define ∷ []) ts ≡ true
+pub opening_begins : (ts : List Lexeme) (p : OpeningParts × List Lexeme) → openings.read ts ≡ Ok p → begins (class.Define ∷ []) ts ≡ true
 opening_begins ts p e =
     read_starts {S = Unit {0}} openings.firsts openings.flast (λ s. openings) (λ s x. s) (λ s. openings_law) (λ s. refl) (λ s c h. h) (λ s c h. h) refl tt ts p e
 
@@ -46,7 +46,7 @@ opening_begins ts p e =
 pub definition_read : (ts : List Lexeme) → begins (class.Define ∷ []) ts ≡ true → entities.read ts ≡ definitions.read ts
 unfolding entity_forms
 definition_read ts b =
-    ap (λ t. if t then nothing_kept.read ts else kept_entities.read ts) (other nothing_kept.firsts refl)
+    ap (λ t. if t then no_entity.read ts else item_entities.read ts) (other no_entity.firsts refl)
     ∙ ap (λ t. if t then type_defs.read ts else (if begins declarations.firsts ts then declarations.read ts else (if begins definitions.firsts ts then definitions.read ts else global_entities.read ts))) (other type_defs.firsts refl)
     ∙ ap (λ t. if t then declarations.read ts else (if begins definitions.firsts ts then definitions.read ts else global_entities.read ts)) (other declarations.firsts refl)
     ∙ ap (λ t. if t then definitions.read ts else global_entities.read ts) b
@@ -65,7 +65,7 @@ closed_bad ts n e =
     (first_bad block_lists (word class.CloseCurly) ts n (list_bad ts n e))
 
 -- a first block's bad token is that of the item
-pub entity_bad : (ts : List Lexeme) (p : Front × List Lexeme) (n : ℕ) → openings.read ts ≡ Ok p → (blocks true).read p.1 ≡ Err n → entities.read ts ≡ Err n
+pub entity_bad : (ts : List Lexeme) (p : OpeningParts × List Lexeme) (n : ℕ) → openings.read ts ≡ Ok p → (blocks true).read p.1 ≡ Err n → entities.read ts ≡ Err n
 unfolding definition_forms
 entity_bad ts p n e f =
     definition_read ts (opening_begins ts p e) ∙ made_bad (seq openings closed_blocks) definition_of ts n (second_bad openings closed_blocks ts p n e (closed_bad p.1 n f))
@@ -87,7 +87,7 @@ closed_begun ts w =
     made_begun (seq block_lists (word class.CloseCurly)) (λ (z : List Block × Unit {0}). z.0) ts
     (first_begun block_lists (word class.CloseCurly) (word_law class.CloseCurly refl refl) ts (list_begun ts w))
 
-pub module_begun : (items front block : List Lexeme) (found : List (Option Entity)) (z : Front) → (each entities).text items found → openings.text front z
+pub module_begun : (items front block : List Lexeme) (found : List (Option Entity)) (z : OpeningParts) → (each entities).text items found → openings.text front z
     → Begins (blocks true) block → Begins modules (items ++ (front ++ block))
 unfolding module_forms entity_forms definition_forms
 module_begun items front block found z t o w =

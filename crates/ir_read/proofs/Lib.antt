@@ -2,7 +2,6 @@ pub mod Begun
 pub mod BlockParts
 pub mod Ends
 pub mod EntityLaws
-pub mod Kept
 pub mod OneAnswer
 pub mod Placing
 pub mod Settled

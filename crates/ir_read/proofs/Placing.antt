@@ -8,17 +8,17 @@ use Rattle.ir_syntax.specs.declared.block.Block.{Block}
 use Rattle.ir_words.specs.Classes.{first, number}
 use Rattle.ir_words.specs.Lexemes.{Lexeme}
 use Rattle.ir_words.specs.declared.class.Class.TheVariants as class
+use Rattle.ir_rules.specs.Laws.{Splits}
 use Rattle.ir_rules.specs.Reading.{Begins, Reads, read_all}
 use Rattle.ir_rules.specs.Rules.{Answer, begins, each, has}
 use Rattle.ir_rules.proofs.Chains.{read_starts}
-use Rattle.ir_rules.proofs.Laws.{Splits}
 use Rattle.ir_rules.proofs.Sets.{within_is}
 use Rattle.ir_rules.proofs.Whole.{read_all_reads}
 use Rattle.ir_body.specs.Blocks.{blocks}
 use Rattle.ir_body.proofs.BlockLaws.{blocks_law}
 use Rattle.ir_read.specs.Entities.{entities, entity_firsts, modules}
 use Rattle.ir_read.specs.FirstBlocks.{IsInFirstBlock, TellsFirstBlock, is_bad, stops_behind, stops_in_block}
-use Rattle.ir_functions.specs.Functions.{Front, openings}
+use Rattle.ir_functions.specs.Functions.{OpeningParts, openings}
 use Rattle.ir_entities.specs.declared.entity.Entity.{Entity}
 use Rattle.ir_read.proofs.BlockParts.{entity_bad, module_bad, module_begun, opening_begins}
 use Rattle.ir_read.proofs.EntityLaws.{entities_law, modules_law}
@@ -42,7 +42,7 @@ from_place all before bad e = ap (λ n. drop n all) (place all before bad e) ∙
 
 -- how the front of a definition and a first block behind it stop
 record Stop (rest : List Lexeme) : Type 0 where
-  behind : Front × List Lexeme
+  behind : OpeningParts × List Lexeme
   opened : openings.read rest ≡ Ok behind
   left : ℕ
   bad : (blocks true).read behind.1 ≡ Err left
@@ -50,18 +50,18 @@ record Stop (rest : List Lexeme) : Type 0 where
 stop_of : (rest : List Lexeme) → stops_in_block rest ≡ true → Stop rest
 stop_of rest e = go (openings.read rest) refl e
   where
-    inner : (p : Front × List Lexeme) → openings.read rest ≡ Ok p → (o : Answer Block) → (blocks true).read p.1 ≡ o → is_bad o ≡ true → Stop rest
+    inner : (p : OpeningParts × List Lexeme) → openings.read rest ≡ Ok p → (o : Answer Block) → (blocks true).read p.1 ≡ o → is_bad o ≡ true → Stop rest
     inner p e (Ok q) f s = absurd (cc)
     inner p e (Err n) f s = record { behind = p; opened = e; left = n; bad = f }
 
-    go : (o : Answer Front) → openings.read rest ≡ o → stops_behind o ≡ true → Stop rest
+    go : (o : Answer OpeningParts) → openings.read rest ≡ o → stops_behind o ≡ true → Stop rest
     go (Ok p) e s = inner p e ((blocks true).read p.1) refl s
     go (Err n) e s = absurd (cc)
 
 module _ (all rest : List Lexeme) (n : ℕ) (walk : after_items entities n all ≡ Ok rest) where
   -- a block that stops there is a first block that has begun
   module _ (left : ℕ) (read : read_all modules all ≡ Err left) where
-    inside : (p : Front × List Lexeme) → Splits openings rest (Ok p) → (m : ℕ) → Splits (blocks true) p.1 (Err m) → left ≡ m
+    inside : (p : OpeningParts × List Lexeme) → Splits openings rest (Ok p) → (m : ℕ) → Splits (blocks true) p.1 (Err m) → left ≡ m
         → first (drop (length all - left) all) ≡ class.Alloca → IsInFirstBlock (take (length all - left) all)
     inside p o m b is alloca = go (walk_text entities entities_law refl refl n all rest walk)
       where

@@ -3,10 +3,9 @@ use Rattle.std.proofs.Common.{◌≡◌, ℕ, List, [], ◌∷◌, ◌++◌, Ok,
 use Rattle.std.specs.Prelude.{◌⊎◌}
 use Rattle.std.proofs.lemmas.List.{append-nil}
 use Rattle.ir_words.specs.Lexemes.{Lexeme}
+use Rattle.ir_rules.specs.Laws.{Lawful, Splits, head}
 use Rattle.ir_rules.specs.Reading.{Begins}
 use Rattle.ir_rules.specs.Rules.{Answer, Rule}
-use Rattle.ir_rules.proofs.Laws.{Lawful, Splits}
-use Rattle.ir_rules.proofs.Sets.{head}
 
 -- two fronts of the same tokens: the second one is longer, or the first one goes on from it
 abbrev Longer : List Lexeme → List Lexeme → List Lexeme → List Lexeme → Type 0

@@ -3,9 +3,9 @@ use Rattle.std.proofs.Common.{◌≡◌, ℕ, zero, suc, true, false, List, [], 
 use Rattle.std.specs.declared.result.Result.{Result}
 use Rattle.ir_words.specs.Classes.{first}
 use Rattle.ir_words.specs.Lexemes.{Lexeme}
+use Rattle.ir_rules.specs.Laws.{Lawful, Splits}
 use Rattle.ir_rules.specs.Rules.{Answer, Rule, ◌>>=◌, apart, begins, each, with_item}
 use Rattle.ir_rules.proofs.Chains.{chain_goes, each_lawful, item_and, read_starts}
-use Rattle.ir_rules.proofs.Laws.{Lawful, Splits}
 use Rattle.ir_rules.proofs.Sets.{apart_back}
 
 module _ {A : Type 0} (a : Rule A) where

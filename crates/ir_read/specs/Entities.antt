@@ -4,47 +4,14 @@ use Rattle.ir_syntax.specs.Types.{TextTree}
 use Rattle.ir_ident.specs.declared.name.NameUse.{NameUse}
 use Rattle.ir_words.specs.declared.class.Class.{Class}
 use Rattle.ir_words.specs.declared.class.Class.TheVariants as class
-use Rattle.ir_rules.specs.Balance.{enclosed}
-use Rattle.ir_rules.specs.Leaves.{leading}
-use Rattle.ir_rules.specs.Rules.{Rule, ◌▷◌, each, either, made, option, seq, within, word}
-use Rattle.ir_rules.specs.declared.bracket.Bracket.TheVariants.{Curly}
-use Rattle.ir_attributes.specs.Attributes.{round_brackets}
+use Rattle.ir_rules.specs.Rules.{Rule, ◌▷◌, each, either, made, seq, within}
+use Rattle.ir_attributes.specs.Ignored.{ignored, ignored_firsts}
 use Rattle.ir_types.specs.Types.{local_uses, structs, types}
 use Rattle.ir_functions.specs.Functions.{declarations, definitions, suffix_flast}
+use Rattle.ir_values.specs.Values.{global_classes}
 use Rattle.ir_globals.specs.Variables.{global_entities}
 use Rattle.ir_entities.specs.declared.entity.Entity.{Entity}
 use Rattle.ir_entities.specs.declared.entity.Entity.TheVariants as entity
-
--- "source_filename" = STR
-abbrev pub source_filename : Rule (Unit {0})
-source_filename = class.SourceFilename ▷ class.Equal ▷ word class.Str
-
--- "target" ("triple"|"datalayout") = STR
-abbrev pub target : Rule (Unit {0})
-target = class.Target ▷ leading (either (word class.Triple) (word class.Datalayout)) (class.Equal ▷ word class.Str)
-
--- "attributes" ATTR = { BAL }
-abbrev pub attribute_group : Rule (Unit {0})
-attribute_group = class.Attributes ▷ class.Attr ▷ class.Equal ▷ enclosed Curly
-
--- META ["(" BAL ")"]
-abbrev pub metadata_kind : Rule (Unit {0})
-metadata_kind = made (λ (o : Option (Unit {0})). tt) (class.Meta ▷ option round_brackets)
-
--- META ["(" BAL ")"] | ! { BAL }
-abbrev pub metadata_body : Rule (Unit {0})
-metadata_body = either metadata_kind (class.Bang ▷ enclosed Curly)
-
--- META = ["distinct"] (META ["(" BAL ")"] | ! { BAL })
-abbrev pub metadata : Rule (Unit {0})
-metadata = class.Meta ▷ class.Equal ▷ leading (option (word class.Distinct)) metadata_body
-
--- entities of which nothing is kept
-unfoldable pub dropped_forms : Rule (Unit {0})
-dropped_forms = either source_filename (either target (either attribute_group metadata))
-
-abbrev pub dropped_entities : Rule (Unit {0})
-dropped_entities = within (class.SourceFilename ∷ class.Target ∷ class.Attributes ∷ class.Meta ∷ []) (class.OpenRound ∷ []) false dropped_forms
 
 abbrev pub type_def_of : NameUse × TextTree → Option Entity
 type_def_of z = Some (entity.Type (record { line = z.0.line; place = 0; name = z.0.name; body = z.1 }))
@@ -57,20 +24,22 @@ abbrev pub type_defs : Rule (Option Entity)
 type_defs = within (class.Local ∷ []) [] false type_def_forms
 
 -- an entity of which nothing is kept
-abbrev pub nothing_kept : Rule (Option Entity)
-nothing_kept = made (λ (u : Unit {0}). None) dropped_entities
+abbrev pub no_entity : Rule (Option Entity)
+no_entity = made (λ (u : Unit {0}). None) ignored
 
 -- an entity that is kept
-abbrev pub kept_entities : Rule (Option Entity)
-kept_entities = either type_defs (either declarations (either definitions global_entities))
+abbrev pub item_entities : Rule (Option Entity)
+item_entities = either type_defs (either declarations (either definitions global_entities))
 
 -- entity
 unfoldable pub entity_forms : Rule (Option Entity)
-entity_forms = either nothing_kept kept_entities
+entity_forms = either no_entity item_entities
+
+abbrev pub item_firsts : List Class
+item_firsts = class.Local ∷ class.Declare ∷ class.Define ∷ global_classes
 
 abbrev pub entity_firsts : List Class
-entity_firsts = class.SourceFilename ∷ class.Target ∷ class.Attributes ∷ class.Meta ∷ class.Local ∷ class.Declare ∷ class.Define
-    ∷ class.Global ∷ class.MetadataIntrinsic ∷ class.DroppedIntrinsic ∷ class.Intrinsic ∷ []
+entity_firsts = ignored_firsts ++ item_firsts
 
 abbrev pub entities : Rule (Option Entity)
 entities = within entity_firsts (class.Comma ∷ suffix_flast) false entity_forms

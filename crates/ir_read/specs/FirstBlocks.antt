@@ -8,7 +8,7 @@ use Rattle.ir_rules.specs.Reading.{Begins, read_all}
 use Rattle.ir_rules.specs.Rules.{Answer, each}
 use Rattle.ir_body.specs.Blocks.{blocks}
 use Rattle.ir_read.specs.Entities.{entities, modules}
-use Rattle.ir_functions.specs.Functions.{Front, openings}
+use Rattle.ir_functions.specs.Functions.{OpeningParts, openings}
 use Rattle.ir_entities.specs.declared.entity.Entity.{Entity}
 
 -- The tokens end inside a first block: behind whole items and the front of a definition up to its `{`
@@ -19,7 +19,7 @@ pub record IsInFirstBlock (ts : List Lexeme) : Type 0 where
   pub block : List Lexeme
   pub parts : ts ≡ items ++ (front ++ block)
   pub whole : (found : List (Option Entity)) × (each entities).text items found
-  pub opened : (z : Front) × openings.text front z
+  pub opened : (z : OpeningParts) × openings.text front z
   pub begun : Begins (blocks true) block
   pub unended : (b : Block) → (blocks true).text block b → ⊥
 
@@ -28,7 +28,7 @@ is_bad (Ok p) = false
 is_bad (Err left) = true
 
 -- whether behind the front of a definition, if that is read, no first block is
-abbrev pub stops_behind : Answer Front → Bool
+abbrev pub stops_behind : Answer OpeningParts → Bool
 stops_behind (Ok p) = is_bad ((blocks true).read p.1)
 stops_behind (Err left) = false
 

@@ -10,7 +10,7 @@ use ir_rules::End;
 use ir_words::Cursor;
 use std::alloc::{AllocError, Global};
 
-/// Whether the front of a definition is read here, and then no first block.
+/// Whether a definition is read up to its first block here, and then no first block.
 fn stops_in_block(alloc: Global, rest: Cursor<'_>) -> Result<bool, AllocError>
     ensures { IfOk result (λ stops. stops ≡ stops_in_block rest.entry) }
 {

@@ -1,7 +1,6 @@
 //! The reader of modules of textual LLVM IR (LLVM Language Reference Manual, "Module Structure").
 #![tactic(auto)]
 
-mod dropped;
 mod first_block;
 mod module;
 mod reading;

@@ -1,16 +1,15 @@
 //! The items at the top of a module (LangRef, "Module Structure").
-ghost use Rattle.std.specs.Prelude.{◌≡◌, Some, [], ◌∷◌, ◌++◌, filter_map, IfErr, OnOk};
-ghost use Rattle.ir_rules.specs.declared.end.End.TheVariants.{NoMemory};
+ghost use Rattle.std.specs.Prelude.{◌≡◌, Some};
 ghost use Rattle.ir_rules.specs.Reading.{Gives};
 ghost use Rattle.ir_rules.specs.Rules.{has};
-ghost use Rattle.ir_read.specs.Entities.{entities, entity_firsts, kept_entities, modules, nothing_kept, type_defs};
+ghost use Rattle.ir_read.specs.Entities.{entities, entity_firsts, item_entities, item_firsts, modules, no_entity, type_defs};
 
-use crate::dropped::skip_dropped;
+use ir_attributes::{begins_ignored, skip_ignored};
 use ir_entities::Entity;
 use ir_functions::{read_declaration, read_definition};
 use ir_globals::read_global_entity;
 use ir_ident::NameUse;
-use ir_rules::{End, word};
+use ir_rules::{End, push_found, word};
 use ir_syntax::TypeDef;
 use ir_types::{read_local_use, read_struct};
 use ir_words::{Class, Cursor};
@@ -35,9 +34,9 @@ fn read_type_def<'t>(alloc: Global, rest: Cursor<'t>) -> Result<(Entity, Cursor<
     Ok((Entity::Type(def), rest))
 }
 
-/// Reads an item that is kept.
-fn read_kept<'t>(alloc: Global, rest: Cursor<'t>) -> Result<(Option<Entity>, Cursor<'t>), End>
-    ensures { Gives (λ x. x) result (kept_entities.read rest.entry) }
+/// Reads an item of the module.
+fn read_item<'t>(alloc: Global, rest: Cursor<'t>) -> Result<(Option<Entity>, Cursor<'t>), End>
+    ensures { Gives (λ x. x) result (item_entities.read rest.entry) }
 {
     match rest.first() {
         Class::Local => {
@@ -56,25 +55,15 @@ fn read_kept<'t>(alloc: Global, rest: Cursor<'t>) -> Result<(Option<Entity>, Cur
     }
 }
 
-/// Reads an item of which nothing is kept.
-fn read_dropped<'t>(alloc: Global, rest: Cursor<'t>) -> Result<(Option<Entity>, Cursor<'t>), End>
-    ensures { Gives (λ x. x) result (nothing_kept.read rest.entry) }
+/// Reads an item that means nothing here.
+fn read_ignored<'t>(alloc: Global, rest: Cursor<'t>) -> Result<(Option<Entity>, Cursor<'t>), End>
+    ensures { Gives (λ x. x) result (no_entity.read rest.entry) }
 {
-    let rest = skip_dropped(alloc, rest)?;
+    let rest = skip_ignored(alloc, rest)?;
     Ok((None, rest))
 }
 
-/// Whether a token of a class begins an item of which nothing is kept.
-fn begins_dropped(class: Class) -> bool
-    ensures { result ≡ has nothing_kept.firsts class }
-{
-    matches!(
-        class,
-        Class::SourceFilename | Class::Target | Class::Attributes | Class::Meta
-    )
-}
-
-/// Reads an item; of some nothing is kept.
+/// Reads an item; none where it means nothing here.
 ///
 /// # Errors
 ///
@@ -86,23 +75,19 @@ pub(crate) fn read_entity<'t>(
 ) -> Result<(Option<Entity>, Cursor<'t>), End>
     ensures { Gives (λ x. x) result (entities.read rest.entry) }
 {
-    if begins_dropped(rest.first()) {
-        return read_dropped(alloc, rest);
+    if begins_ignored(rest.first()) {
+        return read_ignored(alloc, rest);
     }
-    read_kept(alloc, rest)
+    read_item(alloc, rest)
 }
 
-/// Whether a token of a class begins an item.
-pub(crate) fn begins_entity(class: Class) -> bool
-    ensures { result ≡ has entity_firsts class }
+/// Whether a token of a class begins an item of the module.
+fn begins_item(class: Class) -> bool
+    ensures { result ≡ has item_firsts class }
 {
     matches!(
         class,
-        Class::SourceFilename
-            | Class::Target
-            | Class::Attributes
-            | Class::Meta
-            | Class::Local
+        Class::Local
             | Class::Declare
             | Class::Define
             | Class::Global
@@ -112,15 +97,11 @@ pub(crate) fn begins_entity(class: Class) -> bool
     )
 }
 
-/// Puts an item to the others, if it is kept.
-fn keep(list: &mut Vec<Entity>, found: Option<Entity>) -> Result<(), End>
-    ensures memory { IfErr result (λ e. e ≡ NoMemory) }
-    ensures kept { OnOk result (list.new.items ≡ list.old.items ++ filter_map (λ e. e) (found ∷ [])) }
+/// Whether a token of a class begins an item, or one that means nothing here.
+pub(crate) fn begins_entity(class: Class) -> bool
+    ensures { result ≡ has entity_firsts class }
 {
-    if let Some(entity) = found {
-        list.push(entity)?;
-    }
-    Ok(())
+    begins_ignored(class) | begins_item(class)
 }
 
 /// Reads the items of a module, as long as one begins.
@@ -139,7 +120,7 @@ pub(crate) fn read_items<'t>(
     let mut list = Vec::new(alloc);
     while begins_entity(rest.first()) {
         let (found, after) = read_entity(alloc, rest)?;
-        keep(&mut list, found)?;
+        push_found(&mut list, found)?;
         rest = after;
     }
     Ok((list, rest))

@@ -4,6 +4,7 @@ use Rattle.ir_lex.specs.declared.kind.Kind.TheVariants as kind
 use Rattle.ir_words.specs.Classes.{class_of, same}
 use Rattle.ir_words.specs.Lexemes.{Lexeme}
 use Rattle.ir_words.proofs.Numbers.{same_is}
+use Rattle.ir_rules.specs.Laws.{Lawful, Splits, head}
 use Rattle.ir_rules.specs.Balance.{AreBalanced, Parts, enclosed, is_closed_by, opener, role_of, skip_on, skip_to, tokens_of}
 use Rattle.ir_rules.specs.Balance.Parts.{none, plain, pair}
 use Rattle.ir_rules.specs.Rules.{Answer, ◌>>=◌, has, one_read}
@@ -11,8 +12,7 @@ use Rattle.ir_rules.specs.declared.bracket.Bracket.{Bracket}
 use Rattle.ir_rules.specs.declared.bracket.Bracket.TheVariants.{Round, Square, Curly, Packed}
 use Rattle.ir_rules.specs.declared.bracket.Role.{Role}
 use Rattle.ir_rules.specs.declared.bracket.Role.TheVariants.{Opens, Closes, Plain}
-use Rattle.ir_rules.proofs.Laws.{Lawful, Splits, sample}
-use Rattle.ir_rules.proofs.Sets.{head}
+use Rattle.ir_rules.proofs.Laws.{sample}
 
 -- tokens that close all these, the innermost first
 abbrev Close : List Bracket → List Lexeme → Type 0

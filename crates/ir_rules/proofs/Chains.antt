@@ -4,9 +4,9 @@ use Rattle.std.proofs.lemmas.List.{append-nil, length-append}
 use Rattle.ir_words.specs.Classes.{class_of, first}
 use Rattle.ir_words.specs.Lexemes.{Lexeme}
 use Rattle.ir_words.specs.declared.class.Class.{Class}
+use Rattle.ir_rules.specs.Laws.{Lawful, Splits, head}
 use Rattle.ir_rules.specs.Rules.{Answer, Rule, ◌>>=◌, all_in, apart, begins, chain, chain_read, chain_text, each, has, with_item}
-use Rattle.ir_rules.proofs.Laws.{Lawful, Splits}
-use Rattle.ir_rules.proofs.Sets.{apart_back, head, head-append, not_left, not_right, not_within, same_begins, within_is}
+use Rattle.ir_rules.proofs.Sets.{apart_back, head-append, not_left, not_right, not_within, same_begins, within_is}
 
 module _ {S A : Type 0} (firsts flast : List Class) (rule : S → Rule A) (next : S → A → S) where
   abbrev pub items : S → Rule (List A)

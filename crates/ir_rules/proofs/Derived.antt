@@ -4,9 +4,10 @@ use Rattle.ir_words.specs.Classes.{class_of}
 use Rattle.ir_lex.specs.declared.kind.Kind.TheVariants as kind
 use Rattle.ir_words.specs.Lexemes.{Lexeme}
 use Rattle.ir_words.specs.declared.class.Class.{Class}
+use Rattle.ir_rules.specs.Laws.{Lawful}
 use Rattle.ir_rules.specs.Rules.{Rule, ◌▷◌, ◌◁◌, apart, commas, commas_some, dropped, each, has, is_word, made, nothing, option, seq, word}
 use Rattle.ir_rules.proofs.Chains.{each_lawful}
-use Rattle.ir_rules.proofs.Laws.{Lawful, either_lawful, made_lawful, nothing_lawful, sample, seq_lawful, word_lawful}
+use Rattle.ir_rules.proofs.Laws.{either_lawful, made_lawful, nothing_lawful, sample, seq_lawful, word_lawful}
 
 -- t is a token of the class
 pub before_lawful : {A : Type 0} (class : Class) (t : Lexeme) → is_word class (class_of t) t.text ≡ Some tt → has (class ∷ []) class ≡ true → (a : Rule A) → Lawful a → Lawful (class ▷ a)

@@ -5,27 +5,9 @@ use Rattle.ir_lex.specs.declared.kind.Kind.{Kind}
 use Rattle.ir_words.specs.Classes.{class_of, first, number}
 use Rattle.ir_words.specs.Lexemes.{Lexeme}
 use Rattle.ir_words.specs.declared.class.Class.{Class}
+use Rattle.ir_rules.specs.Laws.{Lawful, Splits, head}
 use Rattle.ir_rules.specs.Rules.{Answer, Rule, ◌>>=◌, all_in, apart, begins, either, has, is_word, made, nothing, one_of, one_read, seq, token, when, within, word}
-use Rattle.ir_rules.proofs.Sets.{apart_back, apart_is, has_left, has_right, has_same, head, head-append, not_left, not_right, not_within, same_begins, same_number, within_is}
-
--- What an answer says of the tokens, for a rule and for it alone: a text and the rest, or a front of
--- a text and the bad token, and the same of any tokens that go on with an equal one.
-abbrev pub Splits : {A : Type 0} → Rule A → List Lexeme → Answer A → Type 0
-Splits r ts (Ok p) =
-    (us : List Lexeme) × (ts ≡ us ++ p.1) × r.text us p.0 × ((vs : List Lexeme) → head p.1 ≡ head vs → r.read (us ++ vs) ≡ Ok (p.0, vs))
-Splits {A} r ts (Err n) =
-    (us : List Lexeme) × (bad : List Lexeme) × (more : List Lexeme) × (x : A) × (ts ≡ us ++ bad) × (n ≡ length bad) × r.text (us ++ more) x
-    × ((vs : List Lexeme) → head bad ≡ head vs → r.read (us ++ vs) ≡ Err (length vs))
-
-pub record Lawful {A : Type 0} (r : Rule A) : Type 0 where
-  -- it reads a text or stops at a bad token, by the next token alone
-  pub splits : (ts : List Lexeme) → Splits r ts (r.read ts)
-  -- it reads each text that no token goes on
-  pub complete : (us vs : List Lexeme) (x : A) → r.text us x → begins r.flast vs ≡ false → r.read (us ++ vs) ≡ Ok (x, vs)
-  -- it has a text
-  pub some : (us : List Lexeme) × (x : A) × r.text us x
-  pub first : (t : Lexeme) (ts : List Lexeme) (x : A) → r.text (t ∷ ts) x → has r.firsts (class_of t) ≡ true
-  pub may_be_empty : (x : A) → r.text [] x → r.nullable ≡ true
+use Rattle.ir_rules.proofs.Sets.{apart_back, apart_is, has_left, has_right, has_same, head-append, not_left, not_right, not_within, same_begins, same_number, within_is}
 
 -- a token, as an example of its kind
 abbrev pub sample : Kind → List ℕ → Lexeme

@@ -4,11 +4,11 @@ use Rattle.std.specs.Prelude.{Option}
 use Rattle.ir_words.specs.Classes.{class_of, head_line}
 use Rattle.ir_words.specs.Lexemes.{Lexeme}
 use Rattle.ir_words.specs.declared.class.Class.{Class}
+use Rattle.ir_rules.specs.Laws.{Lawful, Splits, head}
 use Rattle.ir_rules.specs.Leaves.{ending, flag, leading, leaf, lined, means, of_class, with_line}
 use Rattle.ir_rules.specs.Rules.{Answer, Rule, ◌>>=◌, apart, has, is_word, option, seq, word}
 use Rattle.ir_rules.proofs.Derived.{option_lawful}
-use Rattle.ir_rules.proofs.Laws.{Lawful, Splits, made_lawful, seq_lawful, token_lawful, word_lawful}
-use Rattle.ir_rules.proofs.Sets.{head}
+use Rattle.ir_rules.proofs.Laws.{made_lawful, seq_lawful, token_lawful, word_lawful}
 
 -- t is a token that has a tree
 pub leaf_lawful : {A : Type 0} (cs : List Class) (f : List ℕ → Option A) (t : Lexeme) (x : A) → of_class cs f (class_of t) t.text ≡ Some x → Lawful (leaf cs f)

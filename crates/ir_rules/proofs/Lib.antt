@@ -1,13 +1,11 @@
 pub mod Balances
-pub mod ChainLoops
 pub mod Chains
 pub mod Derived
 pub mod Examples
-pub mod Folds
-pub mod Fronts
 pub mod Laws
 pub mod Leaves
-pub mod Loops
+pub mod Prefixes
+pub mod Repeats
 pub mod Sets
 pub mod Whole
 pub mod Words

@@ -5,6 +5,7 @@ use Rattle.std.proofs.lemmas.Bool.Decides.{nat_tests}
 use Rattle.ir_words.specs.Classes.{class_of, first, number}
 use Rattle.ir_words.specs.Lexemes.{Lexeme}
 use Rattle.ir_words.specs.declared.class.Class.{Class}
+use Rattle.ir_rules.specs.Laws.{head}
 use Rattle.ir_rules.specs.Rules.{all_in, apart, begins, has, is_one}
 
 and_left : (a b : Bool) → (a && b) ≡ true → a ≡ true
@@ -33,6 +34,10 @@ has-append cs ds c = ap (λ b. not (number Class.End == number c) && b) (is_one-
     go : (e x y : Bool) → (e && (x || y)) ≡ ((e && x) || (e && y))
     go true x y = refl
     go false x y = refl
+
+-- whether a class is in one set or in the other
+pub in_either : (cs ds : List Class) (c : Class) (p q : Bool) → p ≡ has cs c → q ≡ has ds c → (p || q) ≡ has (cs ++ ds) c
+in_either cs ds c p q e f = ap (λ b. b || q) e ∙ ap (λ b. has cs c || b) f ∙ sym (has-append cs ds c)
 
 pub has_left : (cs ds : List Class) (c : Class) → has cs c ≡ true → has (cs ++ ds) c ≡ true
 has_left cs ds c h = has-append cs ds c ∙ ap (λ b. b || has ds c) h
@@ -104,11 +109,6 @@ not_within cs ds c a h = go (has cs c) refl
     go : (b : Bool) → has cs c ≡ b → has cs c ≡ false
     go true e = absurd (not_both (has ds c) (within_is cs ds c a e) h)
     go false e = e
-
--- the first lexeme
-abbrev pub head : List Lexeme → Option Lexeme
-head [] = None
-head (t ∷ ts) = Some t
 
 abbrev class_at : Option Lexeme → Class
 class_at None = Class.End

@@ -2,10 +2,9 @@
 use Rattle.std.proofs.Common.{◌≡◌, ℕ, suc, ◌-◌, ◌<◌, Bool, true, false, List, [], ◌∷◌, ◌++◌, Ok, Err, arith, ap, append_assoc, length, refl, Some, subst, sym, take, ◌∙◌}
 use Rattle.std.proofs.lemmas.List.{append-nil, length-append, take_at}
 use Rattle.ir_words.specs.Lexemes.{Lexeme}
+use Rattle.ir_rules.specs.Laws.{Lawful, Splits, head}
 use Rattle.ir_rules.specs.Reading.{Begins, IsFirstBad, Reads, ended, read_all}
 use Rattle.ir_rules.specs.Rules.{Answer, Rule, ◌>>=◌}
-use Rattle.ir_rules.proofs.Laws.{Lawful, Splits}
-use Rattle.ir_rules.proofs.Sets.{head}
 
 module _ {A : Type 0} (r : Rule A) (lr : Lawful r) where
   -- each text is read, so no text has two trees

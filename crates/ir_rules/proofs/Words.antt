@@ -3,10 +3,11 @@ use Rattle.std.proofs.Common.{◌≡◌, true, false, [], ◌∷◌}
 use Rattle.ir_words.specs.Classes.{same}
 use Rattle.ir_words.specs.declared.class.Class.{Class}
 use Rattle.ir_words.specs.declared.class.Class.TheVariants as class
+use Rattle.ir_rules.specs.Laws.{Lawful}
 use Rattle.ir_rules.specs.Leaves.{flag, means}
 use Rattle.ir_rules.specs.Rules.{Rule, ◌▷◌, ◌◁◌, apart, has, word}
 use Rattle.ir_rules.proofs.Derived.{after_lawful, before_lawful}
-use Rattle.ir_rules.proofs.Laws.{Lawful, word_lawful}
+use Rattle.ir_rules.proofs.Laws.{word_lawful}
 use Rattle.ir_rules.proofs.Leaves.{flag_lawful, means_lawful}
 use Rattle.ir_rules.proofs.Examples.{example, example_is}
 

@@ -34,25 +34,27 @@ ended p = ended_at p.0 p.1
 abbrev pub read_all : {A : Type 0} → Rule A → List Lexeme → Result A ℕ
 read_all r ts = r.read ts >>= ended
 
+-- what is answered is what is read; where memory ran out, this holds
+abbrev pub GivesUnless : {T A : Type 0} → Type 0 → (T → A) → Result T End → Result A ℕ → Type 0
+GivesUnless excuse view (Ok x) read = read ≡ Ok (view x)
+GivesUnless excuse view (Err NoMemory) read = excuse
+GivesUnless excuse view (Err (Bad left)) read = read ≡ Err left
+
 -- what is answered is what is read, unless memory ran out
 abbrev pub Gives : {T A : Type 0} → (T → A) → Result T End → Result A ℕ → Type 0
-Gives view (Ok x) read = read ≡ Ok (view x)
-Gives view (Err NoMemory) read = Unit {0}
-Gives view (Err (Bad left)) read = read ≡ Err left
+Gives view result read = GivesUnless (Unit {0}) view result read
 
 -- What is answered is what is read. A reader that takes no memory answers so.
 abbrev pub GivesExactly : {T A : Type 0} → (T → A) → Result T End → Result A ℕ → Type 0
-GivesExactly view (Ok x) read = read ≡ Ok (view x)
-GivesExactly view (Err NoMemory) read = ⊥
-GivesExactly view (Err (Bad left)) read = read ≡ Err left
+GivesExactly view result read = GivesUnless ⊥ view result read
 
--- What is read at the front: the tokens are a text with this tree and then the rest, and no text at
--- the front has more tokens.
-pub record IsFront {A : Type 0} (r : Rule A) (ts : List Lexeme) (x : A) (rest : List Lexeme) : Type 0 where
+-- The longest prefix that is a text: the tokens are a text with this tree and then the rest, and no
+-- prefix with more tokens is a text.
+pub record IsLongestPrefix {A : Type 0} (r : Rule A) (ts : List Lexeme) (x : A) (rest : List Lexeme) : Type 0 where
   pub text : (us : List Lexeme) × (ts ≡ us ++ rest) × r.text us x
   pub longest : (us vs : List Lexeme) (y : A) → ts ≡ us ++ vs → r.text us y → length rest ≤ length vs
 
--- where the front has no text: its first bad token, unless memory ran out
+-- where no prefix is a text: the first bad token, unless memory ran out
 abbrev pub StopsAt : {A : Type 0} → Rule A → List Lexeme → End → Type 0
 StopsAt r ts NoMemory = Unit {0}
 StopsAt r ts (Bad left) = Reads r ts (Err left)

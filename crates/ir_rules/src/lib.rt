@@ -3,11 +3,22 @@
 #![tactic(auto)]
 
 mod bracket;
+mod commas;
+mod element;
 mod enclosed;
 mod end;
+mod found;
+mod repeated;
 mod token;
 
 pub use bracket::Bracket;
+pub use commas::{
+    read_commas, read_commas_some, read_each_after_comma, read_option, skip_commas,
+    skip_each_after_comma,
+};
+pub use element::{Element, Fold};
 pub use enclosed::skip_enclosed;
 pub use end::End;
+pub use found::push_found;
+pub use repeated::{append_each, fold_each, read_each, skip_each};
 pub use token::{bad, word};

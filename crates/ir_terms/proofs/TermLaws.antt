@@ -4,8 +4,9 @@ use Rattle.ir_ident.specs.declared.name.NameUse.{NameUse}
 use Rattle.ir_syntax.specs.declared.operand.TypedOperand.{TypedOperand}
 use Rattle.ir_terms.specs.declared.term_body.TermBody.TheVariants as form
 use Rattle.ir_words.specs.declared.class.Class.TheVariants as class
+use Rattle.ir_rules.specs.Laws.{Lawful}
 use Rattle.ir_rules.proofs.Chains.{each_lawful}
-use Rattle.ir_rules.proofs.Laws.{Lawful, either_lawful, made_lawful, seq_lawful, within_lawful}
+use Rattle.ir_rules.proofs.Laws.{either_lawful, made_lawful, seq_lawful, within_lawful}
 use Rattle.ir_rules.proofs.Leaves.{ending_lawful, lined_lawful}
 use Rattle.ir_rules.proofs.Words.{after_law, before_law, means_law}
 use Rattle.ir_terms.specs.Terms.{branch_forms, branch_of, branches, case_forms, case_of, cases, conditional_forms, conditionals, return_forms, returns, switch_forms, switch_of, switches, targets, term_forms, term_of, terms}

@@ -9,11 +9,12 @@ use Rattle.ir_syntax.specs.declared.term.Term.{Term}
 use Rattle.ir_syntax.specs.declared.term.Term.TheVariants as term
 use Rattle.ir_terms.specs.declared.term_body.TermBody.{TermBody}
 use Rattle.ir_terms.specs.declared.term_body.TermBody.TheVariants as form
-use Rattle.ir_words.specs.declared.class.Class.TheVariants.{Br, CloseSquare, Comma, IntType, LabelWord, Local, OpenCurly, OpenPacked, OpenSquare, Ptr, Ret, Switch, Unreachable, Void}
+use Rattle.ir_words.specs.declared.class.Class.{Class}
+use Rattle.ir_words.specs.declared.class.Class.TheVariants.{Br, CloseSquare, Comma, LabelWord, OpenSquare, Ret, Switch, Unreachable, Void}
 use Rattle.ir_rules.specs.Leaves.{ending, lined, means}
 use Rattle.ir_rules.specs.Rules.{Rule, ◌▷◌, ◌◁◌, each, either, made, seq, within}
 use Rattle.ir_attributes.specs.Attributes.{attachments}
-use Rattle.ir_types.specs.Types.{literals, local_uses, types}
+use Rattle.ir_types.specs.Types.{literals, local_uses, type_firsts, types}
 use Rattle.ir_values.specs.Values.{typed_operands}
 
 -- the terminator that begins on a line
@@ -47,7 +48,7 @@ unfoldable pub conditional_forms : Rule TermBody
 conditional_forms = made branch_of (seq typed_operands (seq (Comma ▷ targets) (Comma ▷ targets)))
 
 abbrev pub conditionals : Rule TermBody
-conditionals = within (OpenSquare ∷ OpenCurly ∷ OpenPacked ∷ IntType ∷ Ptr ∷ Local ∷ []) [] false conditional_forms
+conditionals = within type_firsts [] false conditional_forms
 
 -- "br" "label" LOCAL | "br" type value , "label" LOCAL , "label" LOCAL
 unfoldable pub branch_forms : Rule TermBody
@@ -64,7 +65,7 @@ unfoldable pub case_forms : Rule Case
 case_forms = made case_of (seq (types 64) (seq literals (Comma ▷ targets)))
 
 abbrev pub cases : Rule Case
-cases = within (OpenSquare ∷ OpenCurly ∷ OpenPacked ∷ IntType ∷ Ptr ∷ Local ∷ []) [] false case_forms
+cases = within type_firsts [] false case_forms
 
 abbrev pub switch_of : TypedOperand × (NameUse × List Case) → TermBody
 switch_of z = form.Switch z.0 z.1.0 z.1.1
@@ -84,5 +85,9 @@ endings = either returns (either branches (either switches (means Unreachable fo
 unfoldable pub term_forms : Rule Term
 term_forms = made term_of (lined (ending endings attachments))
 
+-- the first words of terminators
+abbrev pub term_firsts : List Class
+term_firsts = Ret ∷ Br ∷ Switch ∷ Unreachable ∷ []
+
 abbrev pub terms : Rule Term
-terms = within (Ret ∷ Br ∷ Switch ∷ Unreachable ∷ []) (Comma ∷ []) false term_forms
+terms = within term_firsts (Comma ∷ []) false term_forms

@@ -8,4 +8,4 @@ mod term_body;
 mod terms;
 
 pub use phis::read_phi;
-pub use terms::read_term;
+pub use terms::{begins_term, read_term};

@@ -1,14 +1,14 @@
 //! Terminators (LangRef, "Terminator Instructions").
 ghost use Rattle.std.specs.Prelude.{◌≡◌};
-ghost use Rattle.ir_terms.specs.Terms.{branches, cases, conditionals, endings, returns, switches, targets, term_of, terms};
+ghost use Rattle.ir_terms.specs.Terms.{branches, cases, conditionals, endings, returns, switches, targets, term_firsts, term_of, terms};
 ghost use Rattle.ir_rules.specs.Reading.{Gives};
-ghost use Rattle.ir_rules.specs.Rules.{each, ◌▷◌, ◌◁◌};
+ghost use Rattle.ir_rules.specs.Rules.{each, has, ◌▷◌, ◌◁◌};
 ghost use Rattle.ir_words.specs.declared.class.Class.TheVariants.{CloseSquare, Comma, OpenSquare};
 
 use crate::term_body::TermBody;
 use ir_attributes::skip_attachments;
 use ir_ident::NameUse;
-use ir_rules::{End, word};
+use ir_rules::{Element, End, read_each, word};
 use ir_syntax::{Case, Cases, Term, TypedOperand};
 use ir_types::{begins_type, read_literal, read_local_use, read_type};
 use ir_values::read_typed_operand;
@@ -83,28 +83,37 @@ fn read_case<'t>(alloc: Global, rest: Cursor<'t>) -> Result<(Case, Cursor<'t>), 
     Ok((Case { ty, value, target }, rest))
 }
 
-/// Reads the cases of a switch.
-fn read_cases<'t>(alloc: Global, rest: Cursor<'t>) -> Result<(Cases, Cursor<'t>), End>
-    ensures { Gives (λ x. x) result ((each cases).read rest.entry) }
-{
-    let mut rest = rest;
-    let mut list = Vec::new(alloc);
-    while begins_type(rest.first()) {
-        let (case, after) = read_case(alloc, rest)?;
-        list.push(case)?;
-        rest = after;
+/// The reader of a case of a switch.
+#[derive(Drop)]
+struct CaseReader {
+    alloc: Global,
+}
+
+impl Element for CaseReader {
+    type Tree = Case;
+
+    ghost rule = { λ _. cases };
+
+    ghost takes_memory = { Unit {0} };
+
+    fn begins(&self, class: Class) -> bool {
+        begins_type(class)
     }
-    Ok((Cases::from_vec(list), rest))
+
+    fn read<'t>(&self, rest: Cursor<'t>) -> Result<(Case, Cursor<'t>), End> {
+        read_case(self.alloc, rest)
+    }
 }
 
 /// Reads the cases of a switch between square brackets.
+#[tactic(auto, using(crate::proofs::TermLaws::cases_law))]
 fn read_case_list<'t>(alloc: Global, rest: Cursor<'t>) -> Result<(Cases, Cursor<'t>), End>
     ensures { Gives (λ x. x) result ((OpenSquare ▷ each cases ◁ CloseSquare).read rest.entry) }
 {
     let rest = word(rest, Class::OpenSquare)?;
-    let (cases, rest) = read_cases(alloc, rest)?;
+    let (cases, rest) = read_each(alloc, &CaseReader { alloc }, rest)?;
     let rest = word(rest, Class::CloseSquare)?;
-    Ok((cases, rest))
+    Ok((Cases::from_vec(cases), rest))
 }
 
 /// Reads `switch` (LangRef, "'switch' Instruction").
@@ -172,10 +181,20 @@ fn term_of(line: u32, ending: TermBody) -> Term
     }
 }
 
+/// Whether a token of a class begins a terminator.
+pub fn begins_term(class: Class) -> bool
+    ensures { result ≡ has term_firsts class }
+{
+    matches!(
+        class,
+        Class::Ret | Class::Br | Class::Switch | Class::Unreachable
+    )
+}
+
 /// Reads a terminator and the metadata behind it.
 #[tactic(auto, unfolding(crate::specs::Terms::term_forms))]
 pub fn read_term<'t>(alloc: Global, rest: Cursor<'t>) -> Result<(Term, Cursor<'t>), End>
-    ensures { Gives (λ x. x) result ((terms).read rest.entry) }
+    ensures { Gives (λ x. x) result (terms.read rest.entry) }
 {
     let line = rest.line();
     let (ending, rest) = read_ending(alloc, rest)?;

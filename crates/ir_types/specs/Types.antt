@@ -76,5 +76,5 @@ types depth = of_types (types_in depth)
 
 -- type | "void"
 abbrev pub result_types : Rule (Option TextTree)
-result_types = within (Void ∷ OpenSquare ∷ OpenCurly ∷ OpenPacked ∷ IntType ∷ Ptr ∷ Local ∷ []) [] false
+result_types = within (Void ∷ type_firsts) [] false
     (either (means Void None) (made (λ (t : TextTree). Some t) (types 64)))

@@ -6,10 +6,11 @@ use Rattle.ir_syntax.specs.declared.instr.CastOp.TheVariants as cast
 use Rattle.ir_syntax.specs.declared.instr.Op.TheVariants as operation
 use Rattle.ir_syntax.specs.declared.operand.TypedOperand.{TypedOperand}
 use Rattle.ir_words.specs.declared.class.Class.TheVariants as class
+use Rattle.ir_rules.specs.Laws.{Lawful}
 use Rattle.ir_rules.proofs.Chains.{each_lawful}
-use Rattle.ir_rules.proofs.Laws.{Lawful, either_lawful, made_lawful, seq_lawful, within_lawful}
+use Rattle.ir_rules.proofs.Laws.{either_lawful, made_lawful, seq_lawful, within_lawful}
 use Rattle.ir_rules.proofs.Words.{before_law, flag_law, means_law}
-use Rattle.ir_value_ops.specs.ValueOps.{bitwise, bitwise_forms, bitwise_of, bitwise_ops, cast_forms, cast_of, cast_op_forms, cast_ops, casts, exact, exact_forms, exact_of, exact_ops, freeze_forms, freezes, icmp_forms, icmp_of, icmps, pair_forms, pairs, predicate_forms, predicates, select_forms, select_of, selects, signed_order_forms, signed_orders, unsigned_order_forms, unsigned_orders, value_op_forms, value_ops, wrap_forms, wrapping, wrapping_forms, wrapping_of, wrapping_ops, wraps, wraps_of}
+use Rattle.ir_value_ops.specs.ValueOps.{bitwise, bitwise_forms, bitwise_of, bitwise_ops, cast_forms, cast_of, cast_op_forms, cast_ops, casts, exact, exact_forms, exact_of, exact_ops, freeze_forms, freezes, icmp_forms, icmp_of, icmps, pair_forms, pairs, predicate_forms, predicates, select_forms, select_of, selects, signed_order_forms, signed_orders, unsigned_order_forms, unsigned_orders, value_op_forms, value_ops, wrap, wrap_forms, wrapping, wrapping_forms, wrapping_of, wrapping_ops, wraps, wraps_of}
 use Rattle.ir_types.proofs.TypeLaws.{types_law}
 use Rattle.ir_values.proofs.ValueLaws.{operands_law, typed_operands_law}
 
@@ -21,11 +22,12 @@ pairs_law =
 wrapping_ops_law : Lawful wrapping_ops
 wrapping_ops_law = either_lawful _ _ (means_law class.Add binary.Add refl refl) (either_lawful _ _ (means_law class.Sub binary.Sub refl refl) (either_lawful _ _ (means_law class.Mul binary.Mul refl refl) ((means_law class.Shl binary.Shl refl refl)) refl refl) refl refl) refl refl
 
+pub wrap_law : Lawful wrap
+wrap_law = either_lawful _ _ (means_law class.Nuw true refl refl) (means_law class.Nsw false refl refl) refl refl
+
 pub wraps_law : Lawful wraps
 unfolding wrap_forms
-wraps_law =
-    within_lawful _ _ _ _ (made_lawful wraps_of _
-    (each_lawful _ (either_lawful _ _ (means_law class.Nuw true refl refl) (means_law class.Nsw false refl refl) refl refl) refl refl)) refl refl refl
+wraps_law = within_lawful _ _ _ _ (made_lawful wraps_of _ (each_lawful _ wrap_law refl refl)) refl refl refl
 
 wrapping_law : Lawful wrapping
 unfolding wrapping_forms

@@ -1,6 +1,6 @@
 -- Operations on values (LangRef, "Binary Operations", "Bitwise Binary Operations", "Conversion
 -- Operations" and "Other Operations").
-use Rattle.std.specs.Prelude.{List, [], ◌∷◌, Bool, false, true, not}
+use Rattle.std.specs.Prelude.{List, [], ◌∷◌, ◌++◌, Bool, false, true, ◌||◌, not}
 use Rattle.std.specs.List.{list_any}
 use Rattle.cg_num.specs.declared.op.BinOp.{BinOp}
 use Rattle.cg_num.specs.declared.op.BinOp.TheVariants as binary
@@ -13,10 +13,11 @@ use Rattle.ir_syntax.specs.declared.instr.Op.{Op}
 use Rattle.ir_syntax.specs.declared.instr.Op.TheVariants as operation
 use Rattle.ir_syntax.specs.declared.operand.Operand.{Operand}
 use Rattle.ir_syntax.specs.declared.operand.TypedOperand.{TypedOperand}
-use Rattle.ir_words.specs.declared.class.Class.TheVariants.{Add, And, Ashr, Bitcast, Comma, Eq, Exact, Freeze, Icmp, IntType, Inttoptr, Local, Lshr, Mul, Ne, Nsw, Nuw, OpenCurly, OpenPacked, OpenSquare, Or, Ptr, Ptrtoint, Sdiv, Select, Sext, Sge, Sgt, Shl, Sle, Slt, Srem, Sub, To, Trunc, Udiv, Uge, Ugt, Ule, Ult, Urem, Xor, Zext}
+use Rattle.ir_words.specs.declared.class.Class.{Class}
+use Rattle.ir_words.specs.declared.class.Class.TheVariants.{Add, And, Ashr, Bitcast, Comma, Eq, Exact, Freeze, Icmp, Inttoptr, Lshr, Mul, Ne, Nsw, Nuw, Or, Ptrtoint, Sdiv, Select, Sext, Sge, Sgt, Shl, Sle, Slt, Srem, Sub, To, Trunc, Udiv, Uge, Ugt, Ule, Ult, Urem, Xor, Zext}
 use Rattle.ir_rules.specs.Leaves.{flag, means}
 use Rattle.ir_rules.specs.Rules.{Rule, ◌▷◌, each, either, made, seq, within}
-use Rattle.ir_types.specs.Types.{types}
+use Rattle.ir_types.specs.Types.{type_firsts, types}
 use Rattle.ir_values.specs.Values.{operands, typed_operands}
 
 -- the type of two operands, and these
@@ -28,7 +29,7 @@ unfoldable pub pair_forms : Rule Pair
 pair_forms = seq (types 64) (seq operands (Comma ▷ operands))
 
 abbrev pub pairs : Rule Pair
-pairs = within (OpenSquare ∷ OpenCurly ∷ OpenPacked ∷ IntType ∷ Ptr ∷ Local ∷ []) [] false pair_forms
+pairs = within type_firsts [] false pair_forms
 
 -- "add" | "sub" | "mul" | "shl"
 abbrev pub wrapping_ops : Rule BinOp
@@ -38,12 +39,20 @@ wrapping_ops = either (means Add binary.Add) (either (means Sub binary.Sub) (eit
 abbrev pub Wraps : Type 0
 Wraps = Bool × Bool
 
+-- "nuw" | "nsw"
+abbrev pub wrap : Rule Bool
+wrap = either (means Nuw true) (means Nsw false)
+
 abbrev pub wraps_of : List Bool → Wraps
-wraps_of flags = (list_any (λ flag. flag) flags, list_any not flags)
+wraps_of words = (list_any (λ word. word) words, list_any not words)
+
+-- what is known of both after one more word
+abbrev pub with_wrap : Wraps → Bool → Wraps
+with_wrap w unsigned = (w.0 || unsigned, w.1 || not unsigned)
 
 -- ("nuw"|"nsw")*
 unfoldable pub wrap_forms : Rule Wraps
-wrap_forms = made wraps_of (each (either (means Nuw true) (means Nsw false)))
+wrap_forms = made wraps_of (each wrap)
 
 abbrev pub wraps : Rule Wraps
 wraps = within (Nuw ∷ Nsw ∷ []) (Nuw ∷ Nsw ∷ []) true wrap_forms
@@ -55,8 +64,11 @@ wrapping_of z = operation.Wrapping z.0 z.1.0.0 z.1.0.1 z.1.1.0 z.1.1.1.0 z.1.1.1
 unfoldable pub wrapping_forms : Rule Op
 wrapping_forms = made wrapping_of (seq wrapping_ops (seq wraps pairs))
 
+abbrev pub wrapping_firsts : List Class
+wrapping_firsts = Add ∷ Sub ∷ Mul ∷ Shl ∷ []
+
 abbrev pub wrapping : Rule Op
-wrapping = within (Add ∷ Sub ∷ Mul ∷ Shl ∷ []) [] false wrapping_forms
+wrapping = within wrapping_firsts [] false wrapping_forms
 
 -- "udiv" | "sdiv" | "lshr" | "ashr"
 abbrev pub exact_ops : Rule BinOp
@@ -69,8 +81,11 @@ exact_of z = operation.Exact z.0 z.1.0 z.1.1.0 z.1.1.1.0 z.1.1.1.1
 unfoldable pub exact_forms : Rule Op
 exact_forms = made exact_of (seq exact_ops (seq (flag Exact) pairs))
 
+abbrev pub exact_firsts : List Class
+exact_firsts = Udiv ∷ Sdiv ∷ Lshr ∷ Ashr ∷ []
+
 abbrev pub exact : Rule Op
-exact = within (Udiv ∷ Sdiv ∷ Lshr ∷ Ashr ∷ []) [] false exact_forms
+exact = within exact_firsts [] false exact_forms
 
 -- "urem" | "srem" | "and" | "or" | "xor"
 abbrev pub bitwise_ops : Rule BinOp
@@ -83,8 +98,11 @@ bitwise_of z = operation.Bitwise z.0 z.1.0 z.1.1.0 z.1.1.1
 unfoldable pub bitwise_forms : Rule Op
 bitwise_forms = made bitwise_of (seq bitwise_ops pairs)
 
+abbrev pub bitwise_firsts : List Class
+bitwise_firsts = Urem ∷ Srem ∷ And ∷ Or ∷ Xor ∷ []
+
 abbrev pub bitwise : Rule Op
-bitwise = within (Urem ∷ Srem ∷ And ∷ Or ∷ Xor ∷ []) [] false bitwise_forms
+bitwise = within bitwise_firsts [] false bitwise_forms
 
 -- "sgt" | "sge" | "slt" | "sle"
 unfoldable pub signed_order_forms : Rule Pred
@@ -133,8 +151,11 @@ cast_op_forms =
     either (means Trunc cast.Trunc) (either (means Zext cast.Zext) (either (means Sext cast.Sext)
     (either (means Ptrtoint cast.PtrToInt) (either (means Inttoptr cast.IntToPtr) (means Bitcast cast.BitCast)))))
 
+abbrev pub cast_firsts : List Class
+cast_firsts = Trunc ∷ Zext ∷ Sext ∷ Ptrtoint ∷ Inttoptr ∷ Bitcast ∷ []
+
 abbrev pub cast_ops : Rule CastOp
-cast_ops = within (Trunc ∷ Zext ∷ Sext ∷ Ptrtoint ∷ Inttoptr ∷ Bitcast ∷ []) [] false cast_op_forms
+cast_ops = within cast_firsts [] false cast_op_forms
 
 abbrev pub cast_of : CastOp × (TypedOperand × TextTree) → Op
 cast_of z = operation.Cast z.0 z.1.0.ty z.1.0.value z.1.1
@@ -144,7 +165,7 @@ unfoldable pub cast_forms : Rule Op
 cast_forms = made cast_of (seq cast_ops (seq typed_operands (To ▷ types 64)))
 
 abbrev pub casts : Rule Op
-casts = within (Trunc ∷ Zext ∷ Sext ∷ Ptrtoint ∷ Inttoptr ∷ Bitcast ∷ []) [] false cast_forms
+casts = within cast_firsts [] false cast_forms
 
 -- "freeze" type value
 unfoldable pub freeze_forms : Rule Op
@@ -161,6 +182,13 @@ other_value_ops = either icmps (either selects (either casts freezes))
 unfoldable pub value_op_forms : Rule Op
 value_op_forms = either wrapping (either exact (either bitwise other_value_ops))
 
+-- the first words of operations on values other than arithmetic
+abbrev pub other_value_firsts : List Class
+other_value_firsts = Icmp ∷ Select ∷ (cast_firsts ++ Freeze ∷ [])
+
+-- the first words of operations on values
+abbrev pub value_firsts : List Class
+value_firsts = wrapping_firsts ++ exact_firsts ++ bitwise_firsts ++ other_value_firsts
+
 abbrev pub value_ops : Rule Op
-value_ops = within (Add ∷ Sub ∷ Mul ∷ Shl ∷ Udiv ∷ Sdiv ∷ Lshr ∷ Ashr ∷ Urem ∷ Srem ∷ And ∷ Or ∷ Xor ∷ Icmp ∷ Select
-    ∷ Trunc ∷ Zext ∷ Sext ∷ Ptrtoint ∷ Inttoptr ∷ Bitcast ∷ Freeze ∷ []) [] false value_op_forms
+value_ops = within value_firsts [] false value_op_forms

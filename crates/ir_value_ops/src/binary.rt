@@ -1,6 +1,6 @@
 //! Arithmetic on two operands (LangRef, "Binary Operations" and "Bitwise Binary Operations").
 ghost use Rattle.std.specs.Prelude.{◌≡◌};
-ghost use Rattle.ir_value_ops.specs.ValueOps.{bitwise, bitwise_ops, exact, exact_ops, wrapping, wrapping_ops};
+ghost use Rattle.ir_value_ops.specs.ValueOps.{bitwise, bitwise_firsts, bitwise_ops, exact, exact_firsts, exact_ops, wrapping, wrapping_firsts, wrapping_ops};
 ghost use Rattle.ir_rules.specs.Leaves.{flag};
 ghost use Rattle.ir_rules.specs.Reading.{Gives, GivesExactly};
 ghost use Rattle.ir_rules.specs.Rules.{has};
@@ -16,21 +16,21 @@ use std::alloc::Global;
 
 /// Whether a token of this class begins an operation that may say how it wraps.
 pub(crate) fn begins_wrapping(class: Class) -> bool
-    ensures { result ≡ has wrapping.firsts class }
+    ensures { result ≡ has wrapping_firsts class }
 {
     matches!(class, Class::Add | Class::Sub | Class::Mul | Class::Shl)
 }
 
 /// Whether a token of this class begins an operation that may say that it is exact.
 pub(crate) fn begins_exact(class: Class) -> bool
-    ensures { result ≡ has exact.firsts class }
+    ensures { result ≡ has exact_firsts class }
 {
     matches!(class, Class::Udiv | Class::Sdiv | Class::Lshr | Class::Ashr)
 }
 
 /// Whether a token of this class begins a remainder or an operation bit by bit.
 pub(crate) fn begins_bitwise(class: Class) -> bool
-    ensures { result ≡ has bitwise.firsts class }
+    ensures { result ≡ has bitwise_firsts class }
 {
     matches!(
         class,

@@ -1,6 +1,6 @@
 //! Conversions (LangRef, "Conversion Operations").
 ghost use Rattle.std.specs.Prelude.{◌≡◌};
-ghost use Rattle.ir_value_ops.specs.ValueOps.{cast_ops, casts};
+ghost use Rattle.ir_value_ops.specs.ValueOps.{cast_firsts, cast_ops, casts};
 ghost use Rattle.ir_rules.specs.Reading.{Gives, GivesExactly};
 ghost use Rattle.ir_rules.specs.Rules.{has, ◌▷◌};
 ghost use Rattle.ir_types.specs.Types.{types};
@@ -15,7 +15,7 @@ use std::alloc::Global;
 
 /// Whether a token of this class begins a conversion.
 pub(crate) fn begins_cast(class: Class) -> bool
-    ensures { result ≡ has casts.firsts class }
+    ensures { result ≡ has cast_firsts class }
 {
     matches!(
         class,

@@ -1,6 +1,6 @@
 //! Which operation on values it is, by its first word.
 ghost use Rattle.std.specs.Prelude.{◌≡◌};
-ghost use Rattle.ir_value_ops.specs.ValueOps.{other_value_ops, value_ops};
+ghost use Rattle.ir_value_ops.specs.ValueOps.{other_value_firsts, other_value_ops, value_firsts, value_ops};
 ghost use Rattle.ir_rules.specs.Reading.{Gives};
 ghost use Rattle.ir_rules.specs.Rules.{has};
 
@@ -16,7 +16,7 @@ use std::alloc::Global;
 
 /// Whether a token of this class begins an operation on values other than arithmetic.
 fn begins_other_value_op(class: Class) -> bool
-    ensures { result ≡ has other_value_ops.firsts class }
+    ensures { result ≡ has other_value_firsts class }
 {
     match class {
         Class::Icmp | Class::Select | Class::Freeze => true,
@@ -26,7 +26,7 @@ fn begins_other_value_op(class: Class) -> bool
 
 /// Whether a token of this class begins an operation on values.
 pub fn begins_value_op(class: Class) -> bool
-    ensures { result ≡ has value_ops.firsts class }
+    ensures { result ≡ has value_firsts class }
 {
     begins_wrapping(class)
         | begins_exact(class)

@@ -1,24 +1,14 @@
 //! Words that say that nothing wraps (LangRef, "'add' Instruction").
-ghost use Rattle.std.specs.Prelude.{◌≡◌, ◌||◌, [], ◌∷◌, false, not, true};
-ghost use Rattle.ir_value_ops.specs.ValueOps.{wraps};
-ghost use Rattle.ir_rules.specs.Leaves.{means};
+ghost use Rattle.std.specs.Prelude.{◌≡◌};
+ghost use Rattle.ir_value_ops.specs.ValueOps.{with_wrap, wrap, wraps};
 ghost use Rattle.ir_rules.specs.Reading.{GivesExactly};
-ghost use Rattle.ir_rules.specs.Rules.{either, has};
-ghost use Rattle.ir_words.specs.declared.class.Class.TheVariants.{Nsw, Nuw};
 
-use ir_rules::{End, bad};
+use ir_rules::{Element, End, Fold, bad, fold_each};
 use ir_words::{Class, Cursor};
-
-/// Whether a token of this class says that nothing wraps.
-fn is_wrap(class: Class) -> bool
-    ensures { result ≡ has (Nuw ∷ Nsw ∷ []) class }
-{
-    matches!(class, Class::Nuw | Class::Nsw)
-}
 
 /// Reads one word: true for `nuw`, false for `nsw`.
 fn read_wrap<'t>(rest: Cursor<'t>) -> Result<(bool, Cursor<'t>), End>
-    ensures { GivesExactly (λ x. x) result ((either (means Nuw true) (means Nsw false)).read rest.entry) }
+    ensures { GivesExactly (λ x. x) result (wrap.read rest.entry) }
 {
     match rest.first() {
         Class::Nuw => Ok((true, rest.skip())),
@@ -29,9 +19,39 @@ fn read_wrap<'t>(rest: Cursor<'t>) -> Result<(bool, Cursor<'t>), End>
 
 /// What is known of `nuw` and `nsw` after one more word.
 fn with_wrap(wraps: (bool, bool), unsigned: bool) -> (bool, bool)
-    ensures { result ≡ (wraps.0 || unsigned, wraps.1 || not unsigned) }
+    ensures { result ≡ with_wrap wraps unsigned }
 {
     (wraps.0 | unsigned, wraps.1 | !unsigned)
+}
+
+/// The reader of one of these words.
+#[derive(Drop)]
+struct WrapReader;
+
+impl Element for WrapReader {
+    type Tree = bool;
+
+    ghost rule = { λ _. wrap };
+
+    ghost takes_memory = { ⊥ };
+
+    fn begins(&self, class: Class) -> bool {
+        matches!(class, Class::Nuw | Class::Nsw)
+    }
+
+    fn read<'t>(&self, rest: Cursor<'t>) -> Result<(bool, Cursor<'t>), End> {
+        read_wrap(rest)
+    }
+}
+
+impl Fold for WrapReader {
+    type All = (bool, bool);
+
+    ghost next = { with_wrap };
+
+    fn next(&self, all: (bool, bool), tree: bool) -> (bool, bool) {
+        with_wrap(all, tree)
+    }
 }
 
 /// Reads whether `nuw` and whether `nsw` stand here, each in any number.
@@ -39,12 +59,5 @@ fn with_wrap(wraps: (bool, bool), unsigned: bool) -> (bool, bool)
 pub(crate) fn read_wraps<'t>(rest: Cursor<'t>) -> Result<((bool, bool), Cursor<'t>), End>
     ensures { GivesExactly (λ x. x) result (wraps.read rest.entry) }
 {
-    let mut rest = rest;
-    let mut wraps = (false, false);
-    while is_wrap(rest.first()) {
-        let (unsigned, after) = read_wrap(rest)?;
-        wraps = with_wrap(wraps, unsigned);
-        rest = after;
-    }
-    Ok((wraps, rest))
+    fold_each(&WrapReader, (false, false), rest)
 }

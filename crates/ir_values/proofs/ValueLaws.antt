@@ -6,9 +6,10 @@ use Rattle.ir_syntax.specs.declared.operand.ConstantGep.{ConstantGep}
 use Rattle.ir_syntax.specs.declared.operand.Operand.TheVariants as operand
 use Rattle.ir_words.specs.Intrinsics.{begins_with, global_class, global_name, name_class}
 use Rattle.ir_words.specs.declared.class.Class.TheVariants as class
+use Rattle.ir_rules.specs.Laws.{Lawful}
 use Rattle.ir_rules.specs.Rules.{◌▷◌, ◌◁◌}
 use Rattle.ir_rules.proofs.Chains.{each_lawful}
-use Rattle.ir_rules.proofs.Laws.{Lawful, either_lawful, made_lawful, seq_lawful, within_lawful}
+use Rattle.ir_rules.proofs.Laws.{either_lawful, made_lawful, seq_lawful, within_lawful}
 use Rattle.ir_rules.proofs.Leaves.{leaf_lawful, lined_lawful}
 use Rattle.ir_rules.proofs.Examples.{example}
 use Rattle.ir_rules.proofs.Words.{after_law, before_law, flag_law, means_law}

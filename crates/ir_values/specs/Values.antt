@@ -1,5 +1,5 @@
 -- Values as operands (LangRef, "Constants" and "Identifiers").
-use Rattle.std.specs.Prelude.{ℕ, Some, List, [], ◌∷◌, Bool, false}
+use Rattle.std.specs.Prelude.{ℕ, Some, List, [], ◌∷◌, ◌++◌, Bool, false}
 use Rattle.ir_syntax.specs.Types.{TextTree}
 use Rattle.ir_syntax.specs.declared.literal.Literal.{Literal}
 use Rattle.ir_ident.specs.declared.name.NameUse.{NameUse}
@@ -9,19 +9,23 @@ use Rattle.ir_syntax.specs.declared.operand.Operand.TheVariants as operand
 use Rattle.ir_syntax.specs.declared.operand.TypedLiteral.{TypedLiteral}
 use Rattle.ir_syntax.specs.declared.operand.TypedOperand.{TypedOperand}
 use Rattle.ir_words.specs.declared.class.Class.{Class}
-use Rattle.ir_words.specs.declared.class.Class.TheVariants.{Global, MetadataIntrinsic, DroppedIntrinsic, Intrinsic, Getelementptr, Inbounds, OpenRound, CloseRound, Comma, Ptr, Local, Int, True, False, Null, Undef, Poison, OpenSquare, OpenCurly, OpenPacked, IntType}
+use Rattle.ir_words.specs.declared.class.Class.TheVariants.{Global, MetadataIntrinsic, DroppedIntrinsic, Intrinsic, Getelementptr, Inbounds, OpenRound, CloseRound, Comma, Ptr, Local, Int, True, False, Null, Undef, Poison}
 use Rattle.ir_rules.specs.Leaves.{flag, leaf, lined, means}
 use Rattle.ir_rules.specs.Rules.{Rule, ◌▷◌, ◌◁◌, each, either, made, seq, within}
 use Rattle.ir_types.specs.Names.{sigil_name, use_of}
-use Rattle.ir_types.specs.Types.{literals, local_uses, types}
+use Rattle.ir_types.specs.Types.{literals, local_uses, type_firsts, types}
 
 -- GLOBAL of some classes: `@` and a name, where it is used
 abbrev pub global_uses_in : List Class → Rule NameUse
 global_uses_in classes = made use_of (lined (leaf classes (λ (text : List ℕ). Some (sigil_name text))))
 
+-- the classes of `@` and a name
+abbrev pub global_classes : List Class
+global_classes = Global ∷ MetadataIntrinsic ∷ DroppedIntrinsic ∷ Intrinsic ∷ []
+
 -- GLOBAL, where it is used
 abbrev pub global_uses : Rule NameUse
-global_uses = global_uses_in (Global ∷ MetadataIntrinsic ∷ DroppedIntrinsic ∷ Intrinsic ∷ [])
+global_uses = global_uses_in global_classes
 
 abbrev pub typed_literal : TextTree × Literal → TypedLiteral
 typed_literal z = record { ty = z.0; value = z.1 }
@@ -47,15 +51,18 @@ word_forms =
     either (means True operand.True) (either (means False operand.False)
     (either (means Null operand.Null) (either (means Undef operand.Undef) (means Poison operand.Poison))))
 
+abbrev pub word_value_firsts : List Class
+word_value_firsts = True ∷ False ∷ Null ∷ Undef ∷ Poison ∷ []
+
 abbrev pub word_values : Rule Operand
-word_values = within (True ∷ False ∷ Null ∷ Undef ∷ Poison ∷ []) [] false word_forms
+word_values = within word_value_firsts [] false word_forms
 
 -- INT | "true" | "false" | "null" | "undef" | "poison"
 unfoldable pub constant_forms : Rule Operand
 constant_forms = either (made (λ (l : Literal). operand.Int l) literals) word_values
 
 abbrev pub constants : Rule Operand
-constants = within (Int ∷ True ∷ False ∷ Null ∷ Undef ∷ Poison ∷ []) [] false constant_forms
+constants = within (Int ∷ word_value_firsts) [] false constant_forms
 
 -- LOCAL | GLOBAL | INT | "true" | "false" | "null" | "undef" | "poison"
 unfoldable pub scalar_forms : Rule Operand
@@ -63,16 +70,19 @@ scalar_forms =
     either (made (λ (n : NameUse). operand.Local n) local_uses)
     (either (made (λ (n : NameUse). operand.Global n) global_uses) constants)
 
+-- the tokens that are a value
+abbrev pub scalar_firsts : List Class
+scalar_firsts = Local ∷ (global_classes ++ Int ∷ word_value_firsts)
+
 abbrev pub scalars : Rule Operand
-scalars = within (Local ∷ Global ∷ MetadataIntrinsic ∷ DroppedIntrinsic ∷ Intrinsic ∷ Int ∷ True ∷ False ∷ Null ∷ Undef ∷ Poison ∷ []) [] false scalar_forms
+scalars = within scalar_firsts [] false scalar_forms
 
 -- a scalar | cgep
 unfoldable pub operand_forms : ℕ → Rule Operand
 operand_forms depth = either (made (λ (g : ConstantGep). operand.Gep g) (constant_geps depth)) scalars
 
 abbrev pub operands_within : ℕ → Rule Operand
-operands_within depth = within (Getelementptr ∷ Local ∷ Global ∷ MetadataIntrinsic ∷ DroppedIntrinsic ∷ Intrinsic ∷ Int ∷ True ∷ False ∷ Null ∷ Undef ∷ Poison ∷ []) [] false
-    (operand_forms depth)
+operands_within depth = within (Getelementptr ∷ scalar_firsts) [] false (operand_forms depth)
 
 -- value
 abbrev pub operands : Rule Operand
@@ -86,4 +96,4 @@ unfoldable pub typed_forms : Rule TypedOperand
 typed_forms = made typed_operand (seq (types 64) operands)
 
 abbrev pub typed_operands : Rule TypedOperand
-typed_operands = within (OpenSquare ∷ OpenCurly ∷ OpenPacked ∷ IntType ∷ Ptr ∷ Local ∷ []) [] false typed_forms
+typed_operands = within type_firsts [] false typed_forms

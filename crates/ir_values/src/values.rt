@@ -9,9 +9,9 @@ ghost use Rattle.ir_words.specs.declared.class.Class.TheVariants as Classes;
 
 use crate::globals::read_global_use;
 use ir_ident::NameUse;
-use ir_rules::{End, bad, word};
+use ir_rules::{Element, End, bad, read_each_after_comma, word};
 use ir_syntax::{ConstantGep, GepParts, Operand, TypedLiteral, TypedLiterals, TypedOperand};
-use ir_types::{read_literal, read_local_use, read_type};
+use ir_types::{begins_type, read_literal, read_local_use, read_type};
 use ir_words::{Class, Cursor};
 use std::alloc::Global;
 
@@ -38,6 +38,29 @@ fn read_inbounds<'t>(rest: Cursor<'t>) -> (bool, Cursor<'t>)
     }
 }
 
+/// The reader of an integer literal with its type, of at most so many brackets.
+#[derive(Drop)]
+struct IndexReader {
+    alloc: Global,
+    depth: u8,
+}
+
+impl Element for IndexReader {
+    type Tree = TypedLiteral;
+
+    ghost rule = { λ reader. typed_literals reader.depth };
+
+    ghost takes_memory = { Unit {0} };
+
+    fn begins(&self, class: Class) -> bool {
+        begins_type(class)
+    }
+
+    fn read<'t>(&self, rest: Cursor<'t>) -> Result<(TypedLiteral, Cursor<'t>), End> {
+        read_typed_literal(self.alloc, rest, self.depth)
+    }
+}
+
 /// Reads integer literals with their types, each behind a comma.
 fn read_indices<'t>(
     alloc: Global,
@@ -46,13 +69,7 @@ fn read_indices<'t>(
 ) -> Result<(TypedLiterals, Cursor<'t>), End>
     ensures { Gives (λ x. x) result ((each (Classes.Comma ▷ typed_literals depth)).read rest.entry) }
 {
-    let mut rest = rest;
-    let mut list = Vec::new(alloc);
-    while rest.first() == Class::Comma {
-        let (index, after) = read_typed_literal(alloc, rest.skip(), depth)?;
-        list.push(index)?;
-        rest = after;
-    }
+    let (list, rest) = read_each_after_comma(alloc, &IndexReader { alloc, depth }, rest)?;
     Ok((TypedLiterals::from_vec(list), rest))
 }
 

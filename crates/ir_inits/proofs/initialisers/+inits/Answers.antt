@@ -1,7 +1,8 @@
-use Rattle.std.proofs.Common.{refl, rules, Ok}
+use Rattle.std.proofs.Common.{◌++◌, ◌∙◌, ap, refl, rules, Ok}
+use Rattle.std.proofs.lemmas.List.{append-nil}
 use Rattle.ir_words.specs.declared.class.Class.TheVariants as Classes
 use Rattle.ir_rules.specs.Rules.{◌▷◌}
-use Rattle.ir_rules.proofs.Loops.{before_read, led_ends, led_push}
+use Rattle.ir_rules.proofs.Repeats.{appended, begun, each_ended, each_steps, not_begun, word_read}
 use Rattle.ir_rules.proofs.Whole.{read_shorter}
 use Rattle.ir_rules.proofs.Words.{before_law}
 use Rattle.ir_inits.specs.Initialisers.{inits, parts}
@@ -12,15 +13,18 @@ pub read_parts-loop-alloc-smaller : goal.read_parts-loop-alloc-smaller
 read_parts-loop-alloc-smaller t c =
     read_shorter (Classes.Comma ▷ parts c.args.depth (inits c.args.depth)) (before_law Classes.Comma _ refl refl (parts_law c.args.depth (inits_law c.args.depth))) refl
     c.loop-alloc.rest (c.in_ok-part.part, c.in_ok-part.after)
-    (before_read Classes.Comma (parts c.args.depth (inits c.args.depth)) c.loop-alloc.rest (Ok (c.in_ok-part.part, c.in_ok-part.after)) (search rules) (search rules))
+    (word_read Classes.Comma (parts c.args.depth (inits c.args.depth)) c.loop-alloc.rest (Ok (c.in_ok-part.part, c.in_ok-part.after)) (search rules) (search rules))
 
 pub read_parts-loop-alloc-preserved : goal.read_parts-loop-alloc-preserved
 read_parts-loop-alloc-preserved t c =
-    led_push Classes.Comma (parts c.args.depth (inits c.args.depth)) (before_law Classes.Comma _ refl refl (parts_law c.args.depth (inits_law c.args.depth))) refl
-    c.loop-alloc.list _ c.in_ok-part.part c.loop-alloc.rest c.in_ok-part.after _
-    (search rules) (search rules) (search rules) c.loop-alloc.invariant
+    each_steps (Classes.Comma ▷ parts c.args.depth (inits c.args.depth)) (before_law Classes.Comma _ refl refl (parts_law c.args.depth (inits_law c.args.depth))) refl
+    (λ found. c.loop-alloc.list ++ found) (λ found. _ ++ found) c.in_ok-part.part c.loop-alloc.rest c.in_ok-part.after _
+    (appended c.loop-alloc.list _ c.in_ok-part.part (search rules)) (begun Classes.Comma c.loop-alloc.rest refl (search rules))
+    (word_read Classes.Comma (parts c.args.depth (inits c.args.depth)) c.loop-alloc.rest (Ok (c.in_ok-part.part, c.in_ok-part.after)) (search rules) (search rules))
+    c.loop-alloc.invariant
 
 pub read_parts-returns : goal.read_parts-returns
 read_parts-returns t c =
-    led_ends Classes.Comma (parts c.args.depth (inits c.args.depth)) (before_law Classes.Comma _ refl refl (parts_law c.args.depth (inits_law c.args.depth))) refl
-    c.loop-alloc.list c.loop-alloc.rest _ c.loop-alloc.invariant (search rules)
+    each_ended (Classes.Comma ▷ parts c.args.depth (inits c.args.depth)) (before_law Classes.Comma _ refl refl (parts_law c.args.depth (inits_law c.args.depth))) refl
+    (λ found. c.loop-alloc.list ++ found) c.loop-alloc.rest _ c.loop-alloc.invariant (not_begun Classes.Comma c.loop-alloc.rest (search rules))
+    ∙ ap (λ list. Ok (list, c.loop-alloc.rest)) (append-nil c.loop-alloc.list)

@@ -1,6 +1,6 @@
 use Rattle.std.proofs.Common.{◌≡◌, ◌+◌, ◌*◌, length}
 use Rattle.ir_rules.specs.Rules.{commas, each, ◌▷◌}
-use Rattle.ir_rules.proofs.Loops.{with_front}
+use Rattle.ir_rules.specs.Repeats.{prefixed}
 use Rattle.ir_words.specs.declared.class.Class.TheVariants as Classes
 use Rattle.ir_inits.specs.Initialisers.{inits, parts}
 use Rattle.ir_inits.proofs.initialisers.+inits.Given as goal
@@ -27,7 +27,7 @@ abbrev pub decreases-read_bracketed_init : goal.decreases-read_bracketed_init
 decreases-read_bracketed_init l = 6 * l.depth + 4
 
 abbrev pub invariant-read_parts-loop-alloc : goal.invariant-read_parts-loop-alloc
-invariant-read_parts-loop-alloc l = with_front l.list ((each (Classes.Comma ▷ parts l.depth (inits l.depth))).read l.rest) ≡ (commas (parts l.depth (inits l.depth))).read l.fn.rest
+invariant-read_parts-loop-alloc l = prefixed l.list ((each (Classes.Comma ▷ parts l.depth (inits l.depth))).read l.rest) ≡ (commas (parts l.depth (inits l.depth))).read l.fn.rest
 
 abbrev pub decreases-read_parts-loop-alloc : goal.decreases-read_parts-loop-alloc
 decreases-read_parts-loop-alloc l = length l.rest

@@ -1,6 +1,6 @@
 use Rattle.std.proofs.Common.{◌≡◌, ◌+◌, ◌*◌, length}
 use Rattle.ir_rules.specs.Rules.{commas, each, ◌▷◌}
-use Rattle.ir_rules.proofs.Loops.{with_front}
+use Rattle.ir_rules.specs.Repeats.{prefixed}
 use Rattle.ir_words.specs.declared.class.Class.TheVariants as Classes
 use Rattle.ir_types.specs.Types.{types}
 use Rattle.ir_types.proofs.types.+types.Given as goal
@@ -24,7 +24,7 @@ abbrev pub decreases-read_bracketed : goal.decreases-read_bracketed
 decreases-read_bracketed l = 5 * l.depth + 3
 
 abbrev pub invariant-read_types-loop-alloc : goal.invariant-read_types-loop-alloc
-invariant-read_types-loop-alloc l = with_front l.list.items ((each (Classes.Comma ▷ types l.depth)).read l.rest) ≡ (commas (types l.depth)).read l.fn.rest
+invariant-read_types-loop-alloc l = prefixed l.list.items ((each (Classes.Comma ▷ types l.depth)).read l.rest) ≡ (commas (types l.depth)).read l.fn.rest
 
 abbrev pub decreases-read_types-loop-alloc : goal.decreases-read_types-loop-alloc
 decreases-read_types-loop-alloc l = length l.rest

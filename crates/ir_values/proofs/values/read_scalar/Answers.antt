@@ -1,5 +1,5 @@
 use Rattle.std.proofs.Common.{rules}
-use Rattle.ir_rules.proofs.Folds.{exactly_gives}
+use Rattle.ir_rules.proofs.Repeats.{exactly_gives}
 use Rattle.ir_rules.specs.Reading.{Gives}
 use Rattle.ir_values.specs.Values.{constants, scalar_forms}
 use Rattle.ir_values.proofs.values.read_scalar.Goals as goal
