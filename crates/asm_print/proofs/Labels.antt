@@ -20,16 +20,16 @@ leading_whole test (b ∷ bytes) = by_test (test b) (leading_whole test bytes)
 label_is : (name : List ℕ) → is_label name ≡ true → IsLabel name
 label_is name is =
     let numbers : List ℕ = drop 4 name in
-    let front : List ℕ = leading is_digit numbers in
+    let prefix : List ℕ = leading is_digit numbers in
     let back : List ℕ = after_leading is_digit numbers in
     let parts = and_parts (starts_with nat_eq name (codes ".LBB")) (is_number_pair numbers) is in
-    let pair = and_parts (is_number front && starts_with nat_eq back (codes "_")) (is_number (drop 1 back)) parts.1 in
-    let first = and_parts (is_number front) (starts_with nat_eq back (codes "_")) pair.0 in
+    let pair = and_parts (is_number prefix && starts_with nat_eq back (codes "_")) (is_number (drop 1 back)) parts.1 in
+    let first = and_parts (is_number prefix) (starts_with nat_eq back (codes "_")) pair.0 in
     let whole : name ≡ codes ".LBB" ++ numbers = (starts_is Decides-eqb name (codes ".LBB") (starts_with nat_eq name (codes ".LBB")) refl).0 parts.0 in
     let rest : back ≡ 95 ∷ drop 1 back = (starts_is Decides-eqb back (codes "_") (starts_with nat_eq back (codes "_")) refl).0 first.1 in (
-      front,
+      prefix,
       drop 1 back,
-      whole ∙ ap (λ xs. codes ".LBB" ++ xs) (sym (leading_whole is_digit numbers) ∙ ap (λ xs. front ++ xs) rest),
+      whole ∙ ap (λ xs. codes ".LBB" ++ xs) (sym (leading_whole is_digit numbers) ∙ ap (λ xs. prefix ++ xs) rest),
       first.0,
       pair.1,
     )

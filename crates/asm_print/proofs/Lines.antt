@@ -45,15 +45,15 @@ front_leading : (bytes rest : List ℕ) → list_all is_symbol_byte bytes ≡ tr
 front_leading [] rest all ends = ends
 front_leading (b ∷ bytes) rest all ends =
     let parts = and_parts (is_symbol_byte b) (list_all is_symbol_byte bytes) all in
-    ap (λ t. cond t (b ∷ leading is_symbol_byte (bytes ++ rest)) []) parts.0 ∙ ap (λ front. b ∷ front) (front_leading bytes rest parts.1 ends)
+    ap (λ t. cond t (b ∷ leading is_symbol_byte (bytes ++ rest)) []) parts.0 ∙ ap (λ prefix. b ∷ prefix) (front_leading bytes rest parts.1 ends)
 
 bare_read : (name rest : List ℕ) → is_bare name ≡ true → leading is_symbol_byte rest ≡ [] → symbol_at (name ++ rest) ≡ name
 bare_read [] rest bare ends = absurd (cc)
 bare_read (b ∷ bytes) rest bare ends =
     let first = bare_name b bytes bare in
-    let front : List ℕ = leading is_symbol_byte (b ∷ (bytes ++ rest)) in
-    ap (λ t. cond t (b ∷ quoted_prefix false (bytes ++ rest)) (cond (is_digit b) [] front)) (ne_eqb b 34 (λ e. differs b 34 refl first.symbol e))
-    ∙ ap (λ t. cond t [] front) first.digit
+    let prefix : List ℕ = leading is_symbol_byte (b ∷ (bytes ++ rest)) in
+    ap (λ t. cond t (b ∷ quoted_prefix false (bytes ++ rest)) (cond (is_digit b) [] prefix)) (ne_eqb b 34 (λ e. differs b 34 refl first.symbol e))
+    ∙ ap (λ t. cond t [] prefix) first.digit
     ∙ front_leading (b ∷ bytes) rest first.all ends
 
 bare_no_tab : (name rest word : List ℕ) → is_bare name ≡ true → starts_with nat_eq (name ++ rest) (9 ∷ word) ≡ false

@@ -29,7 +29,7 @@ items_words : (items : List Item) → words (statements_of items) ≡ map (λ in
 items_words [] = refl
 items_words (item ∷ items) =
     flat_map-append statement.code (item_statements item) (statements_of items)
-    ∙ ap₂ (λ (front back : List Line). front ++ back) (item_words item.exported item.name item.code) (items_words items)
+    ∙ ap₂ (λ (prefix back : List Line). prefix ++ back) (item_words item.exported item.name item.code) (items_words items)
     ∙ sym (map-append (λ inst. Plain inst) item.code (items_code items))
 
 -- code defines no symbols

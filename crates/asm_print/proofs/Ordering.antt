@@ -53,16 +53,16 @@ defined_among (statement ∷ statements) name among = elim (first_or_more statem
   | inr later ↦ more_defined statement statements name (defined_among statements name later)
 ]
 
-in_middle : {A : Type 0} (P : A → Type 0) (front back : List A) (x : A) → ByRecursion P (front ++ x ∷ back) → P x
+in_middle : {A : Type 0} (P : A → Type 0) (prefix back : List A) (x : A) → ByRecursion P (prefix ++ x ∷ back) → P x
 in_middle P [] back x all = all.0
-in_middle P (y ∷ front) back x all = in_middle P front back x all.1
+in_middle P (y ∷ prefix) back x all = in_middle P prefix back x all.1
 
-not_twice : (front back : List (List ℕ)) (name : List ℕ) → IsDistinct bytes_eq (front ++ name ∷ back) → Contains front name → ⊥
+not_twice : (prefix back : List (List ℕ)) (name : List ℕ) → IsDistinct bytes_eq (prefix ++ name ∷ back) → Contains prefix name → ⊥
 unfolding IsDistinct
 not_twice [] back name differ (k, inside, here) = omega arith
-not_twice (other ∷ front) back name differ (zero, inside, here) =
-    both_ways (bytes_eq other name) (in_middle (λ n. bytes_eq other n ≡ false) front back name differ.0) ((bytes_eq-Decides other name).1 here)
-not_twice (other ∷ front) back name differ (suc k, inside, here) = not_twice front back name differ.1 (k, omega arith, here)
+not_twice (other ∷ prefix) back name differ (zero, inside, here) =
+    both_ways (bytes_eq other name) (in_middle (λ n. bytes_eq other n ≡ false) prefix back name differ.0) ((bytes_eq-Decides other name).1 here)
+not_twice (other ∷ prefix) back name differ (suc k, inside, here) = not_twice prefix back name differ.1 (k, omega arith, here)
 
 defined_once : (items : List Item) → IsDistinct bytes_eq (map (λ item. item.name) items) → (before after : List Statement) (name : List ℕ) →
     statements_of items ≡ before ++ Define name ∷ after → Contains before (Define name) → ⊥

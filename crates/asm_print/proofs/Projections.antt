@@ -33,7 +33,7 @@ pub items_define : (items : List Item) → filter_map defined (statements_of ite
 items_define [] = refl
 items_define (item ∷ items) =
     filter_map-append defined (item_statements item) (statements_of items)
-    ∙ ap (λ front. front ++ filter_map defined (statements_of items)) (item_defines item.exported item.name item.code)
+    ∙ ap (λ prefix. prefix ++ filter_map defined (statements_of items)) (item_defines item.exported item.name item.code)
     ∙ ap (λ more. item.name ∷ more) (items_define items)
 
 joined : (shown : Bool) (item : Item) (rest : List Item) →
@@ -47,7 +47,7 @@ pub items_export : (items : List Item) →
 items_export [] = refl
 items_export (item ∷ items) =
     filter_map-append exported (item_statements item) (statements_of items)
-    ∙ ap (λ front. front ++ filter_map exported (statements_of items)) (item_exports item.exported item.name item.code)
+    ∙ ap (λ prefix. prefix ++ filter_map exported (statements_of items)) (item_exports item.exported item.name item.code)
     ∙ ap (λ more. cond item.exported (item.name ∷ []) [] ++ more) (items_export items)
     ∙ joined item.exported item (filter (λ item. item.exported) items)
 

@@ -30,7 +30,7 @@ lines_tell : (read : List ℕ → List (List ℕ)) (says : Statement → Option 
     ByRecursion IsStatement statements → flat_map read (map statement_line statements) ≡ map spelled (filter_map says statements)
 lines_tell read says tells [] formed = refl
 lines_tell read says tells (statement ∷ statements) formed =
-    ap₂ (λ (front back : List (List ℕ)). front ++ back) (tells statement formed.0) (lines_tell read says tells statements formed.1)
+    ap₂ (λ (prefix back : List (List ℕ)). prefix ++ back) (tells statement formed.0) (lines_tell read says tells statements formed.1)
     ∙ joined (says statement) statement says statements refl
 
 -- nothing is read off what stands after the last line feed
@@ -39,7 +39,7 @@ text_tells : (read : List ℕ → List (List ℕ)) (says : Statement → Option 
 text_tells read says tells end statements formed =
     ap (flat_map read) (lines_of_statements statements formed)
     ∙ flat_map-append read (map statement_line statements) ([] ∷ [])
-    ∙ ap₂ (λ (front back : List (List ℕ)). front ++ (back ++ [])) (lines_tell read says tells statements (recursion_from_All IsStatement statements formed)) end
+    ∙ ap₂ (λ (prefix back : List (List ℕ)). prefix ++ (back ++ [])) (lines_tell read says tells statements (recursion_from_All IsStatement statements formed)) end
     ∙ append-nil (map spelled (filter_map says statements))
 
 pub items_symbols : (items : List Item) → All IsItem items → symbols_of (items_text items) ≡ map (λ item. spelled item.name) items

@@ -10,22 +10,22 @@ use Rattle.rv_isa.specs.declared.statement.Statement.{Statement}
 use Rattle.rv_isa.specs.declared.statement.Statement.TheVariants.{Text, Global, Align, Define, Code}
 use Rattle.asm_print.specs.Items.{Item, export_of, item_statements, items_text, statements_of, statements_text}
 
-statements_text-append : (front back : List Statement) → statements_text (front ++ back) ≡ statements_text front ++ statements_text back
-statements_text-append front back =
-    ap text_of_lines (map-append statement_line front back) ∙ flat_map-append ended (map statement_line front) (map statement_line back)
+statements_text-append : (prefix back : List Statement) → statements_text (prefix ++ back) ≡ statements_text prefix ++ statements_text back
+statements_text-append prefix back =
+    ap text_of_lines (map-append statement_line prefix back) ∙ flat_map-append ended (map statement_line prefix) (map statement_line back)
 
-pub items_text-append : (front back : List Item) → items_text (front ++ back) ≡ items_text front ++ items_text back
-items_text-append front back =
-    ap statements_text (flat_map-append item_statements front back) ∙ statements_text-append (statements_of front) (statements_of back)
+pub items_text-append : (prefix back : List Item) → items_text (prefix ++ back) ≡ items_text prefix ++ items_text back
+items_text-append prefix back =
+    ap statements_text (flat_map-append item_statements prefix back) ∙ statements_text-append (statements_of prefix) (statements_of back)
 
 -- the text of statements, and then that of others
-then : (old before after : List ℕ) (front back : List Statement) → before ≡ old ++ statements_text front →
-    after ≡ before ++ statements_text back → after ≡ old ++ statements_text (front ++ back)
-then old before after front back first second =
+then : (old before after : List ℕ) (prefix back : List Statement) → before ≡ old ++ statements_text prefix →
+    after ≡ before ++ statements_text back → after ≡ old ++ statements_text (prefix ++ back)
+then old before after prefix back first second =
     second
     ∙ ap (λ text. text ++ statements_text back) first
-    ∙ append_assoc old (statements_text front) (statements_text back)
-    ∙ ap (λ text. old ++ text) (sym (statements_text-append front back))
+    ∙ append_assoc old (statements_text prefix) (statements_text back)
+    ∙ ap (λ text. old ++ text) (sym (statements_text-append prefix back))
 
 code_said : (code : List Inst) → map instruction_line code ≡ map statement_line (map (λ inst. Code inst) code)
 code_said [] = refl

@@ -40,15 +40,15 @@ exported_is q (None ∷ lines) = exported_is q lines
 exported_is q (Some statement ∷ lines) = ap (λ b. exports q statement || b) (exported_is q lines)
 
 -- the symbols of statements after others
-symbols-append : (global : List ℕ → Bool) (before : ℕ) (front back : List Statement) →
-    symbols_after global before (front ++ back) ≡ symbols_after global before front ++ symbols_after global (before + length (words front)) back
+symbols-append : (global : List ℕ → Bool) (before : ℕ) (prefix back : List Statement) →
+    symbols_after global before (prefix ++ back) ≡ symbols_after global before prefix ++ symbols_after global (before + length (words prefix)) back
 symbols-append global before [] back = ap (λ n. symbols_after global n back) (omega arith)
-symbols-append global before (statement ∷ front) back =
+symbols-append global before (statement ∷ prefix) back =
     let here : List ObjectSymbol = symbol_at global before (defined statement) in
     let next : ℕ = before + length (code statement) in
-    let count : next + length (words front) ≡ before + length (words (statement ∷ front)) = omega (arith, length-append (code statement) (words front)) in
-    ap (λ more. here ++ more) (symbols-append global next front back ∙ ap (λ n. symbols_after global next front ++ symbols_after global n back) count)
-    ∙ sym (append_assoc here (symbols_after global next front) (symbols_after global (before + length (words (statement ∷ front))) back))
+    let count : next + length (words prefix) ≡ before + length (words (statement ∷ prefix)) = omega (arith, length-append (code statement) (words prefix)) in
+    ap (λ more. here ++ more) (symbols-append global next prefix back ∙ ap (λ n. symbols_after global next prefix ++ symbols_after global n back) count)
+    ∙ sym (append_assoc here (symbols_after global next prefix) (symbols_after global (before + length (words (statement ∷ prefix))) back))
 
 abbrev symbol_of : List ℕ → Bool → ℕ → ObjectSymbol
 symbol_of name global n = record { name = name; global = global; section = section.TheVariants.Text; offset = pos (4 * n) }
@@ -71,11 +71,11 @@ pub symbols_more : (lines : List (Option Statement)) (k : ℕ) (line : Option St
     → new ≡ symbols_after (λ q. list_any (exports q) (statements_in lines)) 0 (statements_in (take (k + 1) lines))
 symbols_more lines k line ws n g old new l e told h was count is =
     let global : List ℕ → Bool = λ q. list_any (exports q) (statements_in lines) in
-    let front : List Statement = statements_in (take k lines) in
-    let counted : n ≡ 0 + length (words front) = omega (arith, count, ap length told) in
+    let prefix : List Statement = statements_in (take k lines) in
+    let counted : n ≡ 0 + length (words prefix) = omega (arith, count, ap length told) in
     is ∙ ap (λ xs. xs ++ in_line (λ statement. symbol_at g n (defined statement)) line) was
-    ∙ ap (λ xs. symbols_after global 0 front ++ xs) (symbol_added g global n _ line (λ q. h q ∙ exported_is q lines) counted)
-    ∙ sym (symbols-append global 0 front (statements_in (line ∷ [])))
+    ∙ ap (λ xs. symbols_after global 0 prefix ++ xs) (symbol_added g global n _ line (λ q. h q ∙ exported_is q lines) counted)
+    ∙ sym (symbols-append global 0 prefix (statements_in (line ∷ [])))
     ∙ ap (symbols_after global 0) (sym (statements_more lines k line l e))
 
 -- a statement's instruction has a word

@@ -35,9 +35,9 @@ absent_push b x (y ∷ xs) h n = (h.0, absent_push b x xs h.1 n)
 pub absent_more : (b : ℕ) (xs : List ℕ) (i : ℕ) → i < length xs → IsAbsent b (take i xs) → get_or xs i 0 ≢ b → IsAbsent b (take (i + 1) xs)
 absent_more b xs i l h n = subst (IsAbsent b) (sym (take_more xs i 0 l)) (absent_push b (get_or xs i 0) (take i xs) h n)
 
-pub not_absent : (b : ℕ) (front back : List ℕ) → IsAbsent b (front ++ b ∷ back) → ⊥
+pub not_absent : (b : ℕ) (prefix back : List ℕ) → IsAbsent b (prefix ++ b ∷ back) → ⊥
 not_absent b [] back h = h.0 refl
-not_absent b (x ∷ front) back h = not_absent b front back h.1
+not_absent b (x ∷ prefix) back h = not_absent b prefix back h.1
 
 -- the rest of a list, as a slice from i + 1 on
 pub cut_here : (b : ℕ) (xs : List ℕ) (i : ℕ) → i < length xs → get_or xs i 0 ≡ b → xs ≡ take i xs ++ b ∷ take (length xs - (i + 1)) (drop (i + 1) xs)
@@ -45,11 +45,11 @@ cut_here b xs i l e =
     sym (take-append-drop i xs) ∙ ap (λ ys. take i xs ++ ys) (drop_more xs i 0 l ∙ ap (λ x. x ∷ drop (i + 1) xs) e ∙ ap (λ ys. b ∷ ys) (sym (take_rest xs (i + 1))))
 
 -- there is one cut
-pub cut_once : (b : ℕ) (front back start rest : List ℕ) → front ++ b ∷ back ≡ start ++ b ∷ rest → IsAbsent b front → IsAbsent b start → (front ≡ start) × (back ≡ rest)
+pub cut_once : (b : ℕ) (prefix back start rest : List ℕ) → prefix ++ b ∷ back ≡ start ++ b ∷ rest → IsAbsent b prefix → IsAbsent b start → (prefix ≡ start) × (back ≡ rest)
 cut_once b [] back [] rest e h k = (refl, tail_same b b back rest e)
 cut_once b [] back (x ∷ start) rest e h k = absurd (k.0 (head_same x b (start ++ b ∷ rest) back (sym e)))
-cut_once b (x ∷ front) back [] rest e h k = absurd (h.0 (head_same x b (front ++ b ∷ back) rest e))
-cut_once b (x ∷ front) back (y ∷ start) rest e h k =
-    let more = cut_once b front back start rest (tail_same x y (front ++ b ∷ back) (start ++ b ∷ rest) e) h.1 k.1 in
-    let first = head_same x y (front ++ b ∷ back) (start ++ b ∷ rest) e in
+cut_once b (x ∷ prefix) back [] rest e h k = absurd (h.0 (head_same x b (prefix ++ b ∷ back) rest e))
+cut_once b (x ∷ prefix) back (y ∷ start) rest e h k =
+    let more = cut_once b prefix back start rest (tail_same x y (prefix ++ b ∷ back) (start ++ b ∷ rest) e) h.1 k.1 in
+    let first = head_same x y (prefix ++ b ∷ back) (start ++ b ∷ rest) e in
     (cc, more.1)

@@ -22,7 +22,7 @@ abbrev pub are_calm : List ℕ → Bool
 are_calm bytes = list_all is_calm bytes
 
 calm-append : (bytes more : List ℕ) → are_calm bytes ≡ true → are_calm more ≡ true → are_calm (bytes ++ more) ≡ true
-calm-append bytes more front back = list_all-append is_calm bytes more ∙ and_from (are_calm bytes) (are_calm more) front back
+calm-append bytes more prefix back = list_all-append is_calm bytes more ∙ and_from (are_calm bytes) (are_calm more) prefix back
 
 calm_in : (names : List (List ℕ)) → list_all are_calm names ≡ true → (n : ℕ) → are_calm (get_or names n []) ≡ true
 calm_in [] all n = refl

@@ -13,9 +13,9 @@ use Rattle.asm_read.proofs.BytesLemmas.{cut_once, tail_same}
 pub comma_between : (bytes a b : List ℕ) → bytes ≡ operands (a ∷ b ∷ []) → bytes ≡ a ++ 44 ∷ 32 ∷ b
 comma_between bytes a b e = e ∙ append_assoc a (44 ∷ 32 ∷ []) b
 
-pub after_comma : (bytes front back a b : List ℕ) → bytes ≡ front ++ 44 ∷ back → IsAbsent 44 front → IsAbsent 44 a → bytes ≡ operands (a ∷ b ∷ []) → back ≡ 32 ∷ b
-after_comma bytes front back a b cut h k e =
-    (cut_once 44 front back a (32 ∷ b) (sym cut ∙ comma_between bytes a b e) h k).1
+pub after_comma : (bytes prefix back a b : List ℕ) → bytes ≡ prefix ++ 44 ∷ back → IsAbsent 44 prefix → IsAbsent 44 a → bytes ≡ operands (a ∷ b ∷ []) → back ≡ 32 ∷ b
+after_comma bytes prefix back a b cut h k e =
+    (cut_once 44 prefix back a (32 ∷ b) (sym cut ∙ comma_between bytes a b e) h k).1
 
 pub operands_once : (bytes a b x y : List ℕ) → IsAbsent 44 a → IsAbsent 44 x → bytes ≡ operands (a ∷ b ∷ []) → bytes ≡ operands (x ∷ y ∷ []) → (a ≡ x) × (b ≡ y)
 operands_once bytes a b x y ha hx e f =

@@ -23,12 +23,12 @@ pub rest_is_last : (rest : List ℕ) → IsAbsent 10 rest → pieces_of rest ≡
 rest_is_last [] h = refl
 rest_is_last (b ∷ rest) h = one_piece_more b rest h.0 ∙ ap (in_first b) (rest_is_last rest h.1)
 
-absent_without : (c : ℕ) (xs : List ℕ) → ((front back : List ℕ) → xs ≡ front ++ c ∷ back → ⊥) → IsAbsent c xs
+absent_without : (c : ℕ) (xs : List ℕ) → ((prefix back : List ℕ) → xs ≡ prefix ++ c ∷ back → ⊥) → IsAbsent c xs
 absent_without c [] none = tt
 absent_without c (x ∷ xs) none =
-    ((λ e. none [] xs (ap (λ y. y ∷ xs) e)), absent_without c xs (λ front back e. none (x ∷ front) back (ap (λ ys. x ∷ ys) e)))
+    ((λ e. none [] xs (ap (λ y. y ∷ xs) e)), absent_without c xs (λ prefix back e. none (x ∷ prefix) back (ap (λ ys. x ∷ ys) e)))
 
-pub last_piece : (rest : List ℕ) → ((front back : List ℕ) → rest ≡ front ++ 10 ∷ back → ⊥) → pieces_of rest ≡ rest ∷ []
+pub last_piece : (rest : List ℕ) → ((prefix back : List ℕ) → rest ≡ prefix ++ 10 ∷ back → ⊥) → pieces_of rest ≡ rest ∷ []
 last_piece rest none = rest_is_last rest (absent_without 10 rest none)
 
 -- the lines up to `rest` are read

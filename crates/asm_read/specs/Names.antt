@@ -15,4 +15,4 @@ IsAbsent b (x ∷ xs) = (x ≢ b) × IsAbsent b xs
 
 -- the bytes are cut at the first b
 abbrev pub IsCut : ℕ → List ℕ → List ℕ → List ℕ → Type 0
-IsCut b bytes front back = (bytes ≡ front ++ b ∷ back) × IsAbsent b front
+IsCut b bytes prefix back = (bytes ≡ prefix ++ b ∷ back) × IsAbsent b prefix

@@ -89,10 +89,10 @@ body_built : (f : Function) (first : Block) (more : List Block) → is_32_or_64 
     is_built_body f first more ≡ true → Ending f (Some (first ∷ more))
 body_built f first [] word is passes =
     let parts = and_parts (is_empty first.phis && is_empty first.instrs) (is_built_term f first.term) passes in
-    let front = and_parts (is_empty first.phis) (is_empty first.instrs) parts.0 in
+    let prefix = and_parts (is_empty first.phis) (is_empty first.instrs) parts.0 in
     let term = term_built f first.term word is parts.1 in
     record {
-      body = record { phis = none_left first.phis front.0; instrs = none_left first.instrs front.1; term = term.built };
+      body = record { phis = none_left first.phis prefix.0; instrs = none_left first.instrs prefix.1; term = term.built };
       typed = term.typed;
     }
 body_built f first (next ∷ more) word is passes = absurd (cc)

@@ -4,9 +4,9 @@ use Rattle.std.specs.Prelude.{min}
 use Rattle.std.specs.List.{reduce}
 use Rattle.ir_syntax.specs.Lines.{line_if}
 
-pub none_joined : (front back : List ℕ) → front ++ back ≡ [] → (front ≡ []) × (back ≡ [])
+pub none_joined : (prefix back : List ℕ) → prefix ++ back ≡ [] → (prefix ≡ []) × (back ≡ [])
 none_joined [] back none = (refl, none)
-none_joined (line ∷ front) back none = absurd (cc)
+none_joined (line ∷ prefix) back none = absurd (cc)
 
 pub none_mapped : {A : Type 0} (line_of : A → ℕ) (xs : List A) → map line_of xs ≡ [] → xs ≡ []
 none_mapped line_of [] none = refl

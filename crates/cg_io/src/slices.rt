@@ -4,7 +4,7 @@ ghost use Rattle.std.specs.Prelude.{◌≡◌, ◌++◌, length, min, take, drop
 pub(crate) fn copy_front(from: &[u8], to: &mut [u8], most: usize) -> usize
     ensures count { result ≡ min most (min (length to.old) (length from.now)) }
     ensures copied { to.new ≡ take result from.now ++ drop result to.old }
-    ensures front { take result to.new ≡ take result from.now }
+    ensures prefix { take result to.new ≡ take result from.now }
     ensures all { from.now ≡ take result to.new ++ drop result from.now }
 {
     let count = most.min(to.len()).min(from.len());

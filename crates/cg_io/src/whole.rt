@@ -26,7 +26,7 @@ pub fn read_all<S: Source>(alloc: Global, src: &mut S, limit: usize) -> Result<V
     ensures most { TakesAtMost (limit + 1) (S.left src.old) (S.left src.new) }
 
     ensures fault { IsErrOf result ReadEnd.Fault → Rose (S.faults src.old) (S.faults src.new) }
-    ensures kept { IsErrOf result ReadEnd.Fault ⊎ (S.faults src.new ≡ S.faults src.old) }
+    ensures no_fault { IsErrOf result ReadEnd.Fault ⊎ (S.faults src.new ≡ S.faults src.old) }
     ensures later { S.faults src.old ≤ S.faults src.new }
 {
     let mut bytes = Vec::new(alloc);
@@ -57,7 +57,7 @@ pub fn write_all<O: Sink>(sink: &mut O, bytes: &[u8]) -> Result<(), WriteFault>
     ensures cut_off { OnErr result (AppendsProperPrefix (O.written sink.old) (O.written sink.new) bytes.now) }
 
     ensures fault { OnErr result (Rose (O.faults sink.old) (O.faults sink.new)) }
-    ensures kept { OnOk result (O.faults sink.new ≡ O.faults sink.old) }
+    ensures no_fault { OnOk result (O.faults sink.new ≡ O.faults sink.old) }
     ensures later { O.faults sink.old ≤ O.faults sink.new }
 {
     let mut written = 0;

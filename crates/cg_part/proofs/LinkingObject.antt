@@ -17,7 +17,7 @@ use Rattle.rv_isa.specs.declared.inst.Inst.{Inst}
 use Rattle.rv_isa.specs.declared.inst.Line.{Line}
 use Rattle.rv_isa.specs.declared.inst.Line.TheVariants.{Plain}
 use Rattle.rv_mach.specs.Code.{HasCode}
-use Rattle.rv_mach.proofs.CodeParts.{has-front}
+use Rattle.rv_mach.proofs.CodeParts.{has-prefix}
 use Rattle.rv_mach.proofs.Fetching.{bytes_of, words_have_code}
 use Rattle.cg_part.proofs.Programs.{host_code, runtime_code, start_code}
 use Rattle.cg_part.proofs.RunningCode.{runtime_encoded, runtime_formed}
@@ -88,7 +88,7 @@ main_called object code has distinct differ small formed =
       address = 0x10000 + 4 * (12 + before);
       aligned = omega arith;
       small = fits;
-      start = has-front image 0x10000 (start_code (0x10000 + 4 * (12 + before))) host_code
+      start = has-prefix image 0x10000 (start_code (0x10000 + 4 * (12 + before))) host_code
           (words_have_code image 0 (runtime_code (0x10000 + 4 * (12 + before))) (runtime_formed (0x10000 + 4 * (12 + before))) runtime_is);
       main = words_have_code image (12 + before) code formed main_is;
     }

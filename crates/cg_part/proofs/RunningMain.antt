@@ -13,7 +13,7 @@ use Rattle.rv_mach.specs.Registers.{IsRegisterFile}
 use Rattle.rv_mach.specs.Run.{run_of}
 use Rattle.rv_mach.specs.State.{State, fresh, register, start, wrapped}
 use Rattle.rv_mach.specs.Step.{instruction_fetched, sum_of, upper_immediate}
-use Rattle.rv_mach.proofs.CodeParts.{has-front, has-back}
+use Rattle.rv_mach.proofs.CodeParts.{has-prefix, has-back}
 use Rattle.rv_mach.proofs.Lookups.{register-same, register-other}
 use Rattle.rv_mach.proofs.OnTheWay.{run-then}
 use Rattle.rv_mach.proofs.PlainCode.{AllCompute, AllLeave, all-compute, all-leave, plain-returns, plain-straight}
@@ -56,7 +56,7 @@ start_calls image input address aligned small code =
     let at : StandsAt image 0x10000 begun =
     record { image_is = refl; pc_is = refl; going = refl; room = omega arith; file = start-file image } in
     let ran : run_of input 4 begun ≡ after_code input calling (fresh begun) =
-    run-block image input 0x10000 calling begun at (has-front image 0x10000 calling after_call code) (omega arith)
+    run-block image input 0x10000 calling begun at (has-prefix image 0x10000 calling after_call code) (omega arith)
     (plain-straight input (before_call address) (call_low 1 address) begun (before_computes address) (before_leaves address) at.room) in
     record {
       m = (after_code input calling (fresh begun)).machine;
@@ -142,7 +142,7 @@ main_runs image input address value signed aligned small begin code =
     let short = loads.short in
     let own : ℕ = length (value_code value) + 1 in
     let main = plain-returns image input address 0x10010 (value_code value) call.m call.at code (omega arith) loads.computes loads.stack loads.link
-        call.back refl (omega arith) in
+    call.back refl (omega arith) in
     let behind : HasCode image 0x10010 after_call = has-back image 0x10000 (before_call address ++ call_low 1 address ∷ []) after_call begin in
     let result : register a0 main.next ≡ low_bits 64 value =
     ap (λ registers. slice_index registers a0) main.registers ∙ loads.result input call.m call.at.file in

@@ -1,6 +1,5 @@
 -- The rules of calls keep the laws.
-use Rattle.std.proofs.Common.{◌≡◌, ℕ, List, [], ◌∷◌, Some, None, refl}
-use Rattle.std.specs.Prelude.{Option}
+use Rattle.std.proofs.Common.{◌≡◌, List, [], ◌∷◌, Some, None, refl}
 use Rattle.ir_syntax.specs.declared.instr.Arg.{Arg}
 use Rattle.ir_ident.specs.declared.name.NameUse.{NameUse}
 use Rattle.ir_syntax.specs.declared.operand.TypedOperand.{TypedOperand}

@@ -8,7 +8,7 @@ use Rattle.ir_ident.specs.declared.name.NameUse.{NameUse}
 use Rattle.ir_syntax.specs.declared.operand.Operand.{Operand}
 use Rattle.ir_syntax.specs.declared.operand.TypedOperand.{TypedOperand}
 use Rattle.ir_words.specs.declared.class.Class.{Class}
-use Rattle.ir_words.specs.declared.class.Class.TheVariants.{Align, Attribute, Attr, Bang, Call, Ccc, CloseRound, Coldcc, DroppedIntrinsic, Equal, Fastcc, Global, Intrinsic, IntType, Local, Meta, Metadata, MetadataIntrinsic, Notail, OpenCurly, OpenPacked, OpenRound, OpenSquare, Ptr, Str, Tail}
+use Rattle.ir_words.specs.declared.class.Class.TheVariants.{Bang, Call, Ccc, CloseRound, Coldcc, DroppedIntrinsic, Fastcc, Global, Intrinsic, Meta, Metadata, MetadataIntrinsic, Notail, OpenRound, Tail}
 use Rattle.ir_rules.specs.Leaves.{ending, leading}
 use Rattle.ir_rules.specs.Rules.{Rule, ◌▷◌, ◌◁◌, commas, dropped, either, made, option, seq, within, word}
 use Rattle.ir_attributes.specs.Attributes.{attribute_flast, attributes}

@@ -4,7 +4,7 @@ use Rattle.std.specs.List.{starts_with}
 use Rattle.std.specs.Char.{is_ascii_digit}
 
 abbrev pub begins_with : List ℕ → List ℕ → Bool
-begins_with front name = starts_with nat_eq name front
+begins_with prefix name = starts_with nat_eq name prefix
 
 abbrev pub begins_digit : List ℕ → Bool
 begins_digit [] = false

@@ -2,10 +2,10 @@
 ghost use Rattle.std.specs.Prelude.{◌≡◌};
 ghost use Rattle.ir_check.specs.Reserved.{begins_digit, begins_with, is_label_name, is_reserved};
 
-fn begins_with(front: &[u8], name: &[u8]) -> bool
-    ensures { result ≡ begins_with front.now name.now }
+fn begins_with(prefix: &[u8], name: &[u8]) -> bool
+    ensures { result ≡ begins_with prefix.now name.now }
 {
-    name.starts_with(front)
+    name.starts_with(prefix)
 }
 
 fn begins_digit(bytes: &[u8]) -> bool

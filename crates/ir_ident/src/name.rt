@@ -54,7 +54,7 @@ impl Identifier {
         ensures { result.now ≡ self.now }
     {
         match &self.spelling {
-            Spelling::Short { len, bytes } => front(bytes, *len),
+            Spelling::Short { len, bytes } => prefix(bytes, *len),
             Spelling::Long(bytes) => bytes.as_slice(),
         }
     }
@@ -76,7 +76,7 @@ fn short(from: &[u8]) -> Spelling
 }
 
 /// The first of these bytes.
-fn front(bytes: &[u8; SHORT], len: u8) -> &[u8]
+fn prefix(bytes: &[u8; SHORT], len: u8) -> &[u8]
     requires { len ≤ 22 }
     ensures { result.now ≡ take len bytes.now }
 {

@@ -1,5 +1,5 @@
 -- The rules of operations on memory, and of all operations, keep the laws.
-use Rattle.std.proofs.Common.{false, true, [], refl}
+use Rattle.std.proofs.Common.{[], refl}
 use Rattle.ir_words.specs.declared.class.Class.TheVariants as class
 use Rattle.ir_rules.specs.Laws.{Lawful}
 use Rattle.ir_rules.proofs.Laws.{either_lawful, made_lawful, seq_lawful, within_lawful}

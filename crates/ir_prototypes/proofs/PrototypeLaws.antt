@@ -5,7 +5,7 @@ use Rattle.ir_syntax.specs.Types.{TextTree}
 use Rattle.ir_words.specs.Intrinsics.{begins_with, global_class, global_name, intrinsic_class, name_class}
 use Rattle.ir_words.specs.declared.class.Class.TheVariants as class
 use Rattle.ir_rules.specs.Laws.{Lawful}
-use Rattle.ir_rules.specs.Rules.{◌▷◌, apart}
+use Rattle.ir_rules.specs.Rules.{◌▷◌}
 use Rattle.ir_rules.proofs.Derived.{commas_lawful, option_lawful}
 use Rattle.ir_rules.proofs.Laws.{either_lawful, made_lawful, seq_lawful, within_lawful}
 use Rattle.ir_rules.proofs.Leaves.{leading_lawful, leaf_lawful, lined_lawful}

@@ -17,7 +17,6 @@ use Rattle.ir_rules.specs.declared.end.End.{End}
 use Rattle.ir_rules.specs.declared.end.End.TheVariants.{NoMemory, Bad}
 use Rattle.ir_rules.specs.Rules.{Answer, Rule, ◌>>=◌, begins, chain, each, has, made, one_read, seq, ◌▷◌, with_item}
 use Rattle.ir_rules.proofs.Chains.{chain_ends, chain_goes, item_and}
-use Rattle.ir_rules.proofs.Whole.{read_shorter}
 
 into_item : {A B : Type 0} (f g : List A → B) (x : A) → ((xs : List A) → f (x ∷ xs) ≡ g xs) → (o : Answer (List A)) → into f (o >>= with_item x) ≡ into g o
 into_item f g x same (Ok q) = ap (λ y. Ok (y, q.1)) (same q.0)

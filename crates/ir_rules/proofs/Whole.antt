@@ -21,9 +21,9 @@ module _ {A : Type 0} (r : Rule A) (lr : Lawful r) where
 
   first_bad : (us bad ts : List Lexeme) → ts ≡ us ++ bad → Begins r us → ((vs : List Lexeme) → head bad ≡ head vs → (x : A) → r.text (us ++ vs) x → ⊥)
       → IsFirstBad r ts (length us)
-  first_bad us bad ts e front never = record {
+  first_bad us bad ts e prefix never = record {
     within = omega (arith, ap length e, length-append us bad);
-    before = subst (Begins r) (sym (taken us bad ts e)) front;
+    before = subst (Begins r) (sym (taken us bad ts e)) prefix;
     bad = at bad e never;
     end = λ same x t. ends bad e never same x t;
   }
@@ -42,9 +42,9 @@ module _ {A : Type 0} (r : Rule A) (lr : Lawful r) where
 
   stops_at : (us bad ts : List Lexeme) (n : ℕ) → ts ≡ us ++ bad → n ≡ length bad → Begins r us
       → ((vs : List Lexeme) → head bad ≡ head vs → (x : A) → r.text (us ++ vs) x → ⊥) → Reads r ts (Err n)
-  stops_at us bad ts n e is front never = (
+  stops_at us bad ts n e is prefix never = (
     omega (arith, is, ap length e, length-append us bad),
-    subst (IsFirstBad r ts) (place) (first_bad us bad ts e front never),
+    subst (IsFirstBad r ts) (place) (first_bad us bad ts e prefix never),
   )
     where
       place : length us ≡ length ts - n

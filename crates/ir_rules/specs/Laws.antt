@@ -1,5 +1,5 @@
 -- The laws of a rule.
-use Rattle.std.specs.Prelude.{◌≡◌, Bool, true, false, List, [], ◌∷◌, ◌++◌, length, Ok, Err, Option, Some, None}
+use Rattle.std.specs.Prelude.{◌≡◌, true, false, List, [], ◌∷◌, ◌++◌, length, Ok, Err, Option, Some, None}
 use Rattle.ir_words.specs.Classes.{class_of}
 use Rattle.ir_words.specs.Lexemes.{Lexeme}
 use Rattle.ir_rules.specs.Rules.{Answer, Rule, begins, has}

@@ -1,9 +1,9 @@
-//! Parts that are separated by commas, and optional parts.
-ghost use Rattle.std.specs.Prelude.{◌≡◌, List, false};
+//! Parts that are separated by commas.
+ghost use Rattle.std.specs.Prelude.{◌≡◌, false};
 ghost use Rattle.ir_rules.specs.Laws.{Lawful};
 ghost use Rattle.ir_rules.specs.Reading.{Gives, GivesUnless};
 ghost use Rattle.ir_rules.specs.Repeats.{into};
-ghost use Rattle.ir_rules.specs.Rules.{commas, commas_some, dropped, each, option, ◌▷◌};
+ghost use Rattle.ir_rules.specs.Rules.{commas, commas_some, dropped, each, ◌▷◌};
 ghost use Rattle.ir_words.specs.declared.class.Class.TheVariants.{Comma};
 
 use crate::element::{AfterComma, Element};
@@ -108,23 +108,4 @@ pub fn skip_each_after_comma<'t, E: Element>(
     ensures { GivesUnless E.takes_memory (λ rest. (tt, rest)) result ((dropped (Comma ▷ E.rule element.now)).read rest.entry) }
 {
     skip_each(&AfterComma { element }, rest)
-}
-
-/// Reads one where one begins.
-///
-/// # Errors
-///
-/// `Bad` at the first token that can't stand there, `NoMemory` if memory runs out.
-pub fn read_option<'t, E: Element>(
-    element: &E,
-    rest: Cursor<'t>,
-) -> Result<(Option<E::Tree>, Cursor<'t>), End>
-    ensures { GivesUnless E.takes_memory (λ x. x) result ((option (E.rule element.now)).read rest.entry) }
-{
-    if element.begins(rest.first()) {
-        let (tree, rest) = element.read(rest)?;
-        Ok((Some(tree), rest))
-    } else {
-        Ok((None, rest))
-    }
 }

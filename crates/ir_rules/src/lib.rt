@@ -13,8 +13,7 @@ mod token;
 
 pub use bracket::Bracket;
 pub use commas::{
-    read_commas, read_commas_some, read_each_after_comma, read_option, skip_commas,
-    skip_each_after_comma,
+    read_commas, read_commas_some, read_each_after_comma, skip_commas, skip_each_after_comma,
 };
 pub use element::{Element, Fold};
 pub use enclosed::skip_enclosed;

@@ -1,5 +1,5 @@
 //! Repetitions.
-ghost use Rattle.std.specs.Prelude.{◌≡◌, List, fold, false};
+ghost use Rattle.std.specs.Prelude.{◌≡◌, fold, false};
 ghost use Rattle.ir_rules.specs.Laws.{Lawful};
 ghost use Rattle.ir_rules.specs.Reading.{Gives, GivesUnless};
 ghost use Rattle.ir_rules.specs.Repeats.{into, prefixed};

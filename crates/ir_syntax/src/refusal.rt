@@ -48,7 +48,7 @@ pub enum Refusal {
     },
     /// Number 18: the module has something that is not built yet.
     NotYet {
-        /// The line of the first such item.
+        /// The least line of what is not built.
         line: u32,
     },
     /// Number 14: a module that is to be run defines no function `main` that other modules see.

@@ -7,7 +7,7 @@ use Rattle.ir_ident.specs.declared.name.NameUse.{NameUse}
 use Rattle.ir_words.specs.Words.{is_digits, is_int_type, is_width, word_class}
 use Rattle.ir_words.specs.declared.class.Class.TheVariants as class
 use Rattle.ir_rules.specs.Laws.{Lawful}
-use Rattle.ir_rules.specs.Rules.{◌▷◌, ◌◁◌, commas, either, made}
+use Rattle.ir_rules.specs.Rules.{◌▷◌, ◌◁◌, commas, either}
 use Rattle.ir_rules.proofs.Derived.{commas_lawful}
 use Rattle.ir_rules.proofs.Laws.{either_lawful, made_lawful, seq_lawful, within_lawful}
 use Rattle.ir_rules.proofs.Leaves.{leaf_lawful, lined_lawful}

@@ -47,9 +47,9 @@ fn push_part(text: &mut Vec<u8>, part: &str, number: usize) -> Result<(), AllocE
 
 /// The bytes of a long text.
 fn text_of(alloc: Global, long: Long) -> Result<Vec<u8>, AllocError> {
-    let (front, part, count, end) = long;
+    let (prefix, part, count, end) = long;
     let mut text = Vec::new(alloc);
-    push_part(&mut text, front, 0)?;
+    push_part(&mut text, prefix, 0)?;
     for number in 0..count {
         push_part(&mut text, part, number)?;
     }

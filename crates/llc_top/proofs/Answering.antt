@@ -35,21 +35,21 @@ module _ (words : List (List ℕ)) (src : SourceChange) (out err : SinkChange) w
   answer-write_fault statuses.Refused answer is = absurd (cc)
   answer-write_fault statuses.Words answer is = absurd (cc)
 
-  pub answer-kept_out : (status : Status) → Answers (HasReason words src) status out err → (status ≡ statuses.WriteFault) ⊎ (out.faults ≡ out.old_faults)
-  answer-kept_out statuses.WriteFault answer = inl refl
-  answer-kept_out statuses.NoMemory answer = inr answer.0.no_fault
-  answer-kept_out statuses.ReadFault answer = inr answer.3.results.no_fault
-  answer-kept_out statuses.Done answer = inr answer.3.results.no_fault
-  answer-kept_out statuses.Refused answer = inr answer.3.results.no_fault
-  answer-kept_out statuses.Words answer = inr answer.3.results.no_fault
+  pub answer-no_out_fault : (status : Status) → Answers (HasReason words src) status out err → (status ≡ statuses.WriteFault) ⊎ (out.faults ≡ out.old_faults)
+  answer-no_out_fault statuses.WriteFault answer = inl refl
+  answer-no_out_fault statuses.NoMemory answer = inr answer.0.no_fault
+  answer-no_out_fault statuses.ReadFault answer = inr answer.3.results.no_fault
+  answer-no_out_fault statuses.Done answer = inr answer.3.results.no_fault
+  answer-no_out_fault statuses.Refused answer = inr answer.3.results.no_fault
+  answer-no_out_fault statuses.Words answer = inr answer.3.results.no_fault
 
-  pub answer-kept_err : (status : Status) → Answers (HasReason words src) status out err → (status ≡ statuses.WriteFault) ⊎ (err.faults ≡ err.old_faults)
-  answer-kept_err statuses.WriteFault answer = inl refl
-  answer-kept_err statuses.NoMemory answer = inr answer.1.no_fault
-  answer-kept_err statuses.ReadFault answer = inr answer.3.errors.no_fault
-  answer-kept_err statuses.Done answer = inr answer.3.errors.no_fault
-  answer-kept_err statuses.Refused answer = inr answer.3.errors.no_fault
-  answer-kept_err statuses.Words answer = inr answer.3.errors.no_fault
+  pub answer-no_err_fault : (status : Status) → Answers (HasReason words src) status out err → (status ≡ statuses.WriteFault) ⊎ (err.faults ≡ err.old_faults)
+  answer-no_err_fault statuses.WriteFault answer = inl refl
+  answer-no_err_fault statuses.NoMemory answer = inr answer.1.no_fault
+  answer-no_err_fault statuses.ReadFault answer = inr answer.3.errors.no_fault
+  answer-no_err_fault statuses.Done answer = inr answer.3.errors.no_fault
+  answer-no_err_fault statuses.Refused answer = inr answer.3.errors.no_fault
+  answer-no_err_fault statuses.Words answer = inr answer.3.errors.no_fault
 
   asked_none : (command : Command) → command_of words ≡ Some command → command_of words ≡ None → ⊥
   asked_none command asked none = let both : Some command ≡ None = sym asked ∙ none in cc

@@ -43,7 +43,7 @@ pub fn run_llc<S: Source, O: Sink, E: Sink>(
     ensures most { TakesAtMost (text_limit + 1) (S.left src.old) (S.left src.new) }
     ensures untouched { (result ≡ Status.Done) ⊎ (result ≡ Status.NoMemory) ⊎ (result ≡ Status.WriteFault) ⊎
         (out.new ≡ out.old) }
-    ensures kept_src { (result ≡ Status.ReadFault) ⊎ (result ≡ Status.WriteFault) ⊎
+    ensures no_src_fault { (result ≡ Status.ReadFault) ⊎ (result ≡ Status.WriteFault) ⊎
         (S.faults src.new ≡ S.faults src.old) }
 
     // These follow from `headline`: which words are refused, and that faults come only from the streams.
@@ -52,8 +52,8 @@ pub fn run_llc<S: Source, O: Sink, E: Sink>(
     ensures read_fault { result ≡ Status.ReadFault → Rose (S.faults src.old) (S.faults src.new) }
     ensures write_fault { result ≡ Status.WriteFault →
         Rose (O.faults out.old) (O.faults out.new) ⊎ Rose (E.faults err.old) (E.faults err.new) }
-    ensures kept_out { (result ≡ Status.WriteFault) ⊎ (O.faults out.new ≡ O.faults out.old) }
-    ensures kept_err { (result ≡ Status.WriteFault) ⊎ (E.faults err.new ≡ E.faults err.old) }
+    ensures no_out_fault { (result ≡ Status.WriteFault) ⊎ (O.faults out.new ≡ O.faults out.old) }
+    ensures no_err_fault { (result ≡ Status.WriteFault) ⊎ (E.faults err.new ≡ E.faults err.old) }
 {
     run_command(alloc, words, src, out, err)
 }
@@ -70,7 +70,7 @@ fn run_command<S: Source, O: Sink, E: Sink>(
         (HasReason (map (λ word. string_bytes word) words.now) (source_change S.left S.faults src.old src.new))
         result (sink_change O.written O.faults out.old out.new) (sink_change E.written E.faults err.old err.new) }
     ensures unread { command_of (map (λ word. string_bytes word) words.now) ≡ None → src.new ≡ src.old }
-    ensures kept_src { (result ≡ Status.ReadFault) ⊎ (result ≡ Status.WriteFault) ⊎
+    ensures no_src_fault { (result ≡ Status.ReadFault) ⊎ (result ≡ Status.WriteFault) ⊎
         (S.faults src.new ≡ S.faults src.old) }
     ensures most { TakesAtMost (text_limit + 1) (S.left src.old) (S.left src.new) }
     ensures untouched { (result ≡ Status.Done) ⊎ (result ≡ Status.NoMemory) ⊎ (result ≡ Status.WriteFault) ⊎

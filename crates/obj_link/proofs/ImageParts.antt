@@ -21,52 +21,52 @@ abbrev bytes_of : List ℕ → List ℕ
 bytes_of words = flat_map (to_le_bytes w32) words
 
 -- the part of a list between two others
-middle : {A : Type 0} (all front part back : List A) (n m : ℕ) → all ≡ front ++ (part ++ back) → n ≡ length front → m ≡ length part
+middle : {A : Type 0} (all prefix part back : List A) (n m : ℕ) → all ≡ prefix ++ (part ++ back) → n ≡ length prefix → m ≡ length part
     → take m (drop n all) ≡ part
-middle all front part back n m is begin long =
-    ap₂ (λ k xs. take m (drop k xs)) begin is ∙ ap (take m) (drop-append_seam front (part ++ back))
+middle all prefix part back n m is begin long =
+    ap₂ (λ k xs. take m (drop k xs)) begin is ∙ ap (take m) (drop-append_seam prefix (part ++ back))
     ∙ ap (λ k. take k (part ++ back)) long ∙ take-append_seam part back
 
 -- the words of lines of an object are in the words of the image
-lines_split : (objects before after : List Object) (object : Object) (front lines back : List Line) → objects ≡ before ++ object ∷ after
-    → object.words ≡ front ++ (lines ++ back) → (rest : List ℕ)
+lines_split : (objects before after : List Object) (object : Object) (prefix lines back : List Line) → objects ≡ before ++ object ∷ after
+    → object.words ≡ prefix ++ (lines ++ back) → (rest : List ℕ)
     × (image_bytes objects
-    ≡ bytes_of (flat_map (λ p. words_of objects p.0 p.1) (with_before [] before) ++ map (line_word (name_address objects before object)) front)
+    ≡ bytes_of (flat_map (λ p. words_of objects p.0 p.1) (with_before [] before) ++ map (line_word (name_address objects before object)) prefix)
     ++ (bytes_of (map (line_word (name_address objects before object)) lines) ++ rest))
-lines_split objects before after object front lines back is parts =
+lines_split objects before after object prefix lines back is parts =
     let word : Line → ℕ = line_word (name_address objects before object) in
     let first : List ℕ = flat_map (λ p. words_of objects p.0 p.1) (with_before [] before) in
     let last : List ℕ = flat_map (λ p. words_of objects p.0 p.1) (with_before (before ++ object ∷ []) after) in
-    let own : map word object.words ≡ map word front ++ (map word lines ++ map word back) =
-    ap (map word) parts ∙ map-append word front (lines ++ back) ∙ ap (λ more. map word front ++ more) (map-append word lines back) in
+    let own : map word object.words ≡ map word prefix ++ (map word lines ++ map word back) =
+    ap (map word) parts ∙ map-append word prefix (lines ++ back) ∙ ap (λ more. map word prefix ++ more) (map-append word lines back) in
     let words = split_before (λ p. words_of objects p.0 p.1) objects before object after is
     ∙ ap (λ more. first ++ (more ++ last)) own
-    ∙ ap (λ more. first ++ more) (append_assoc (map word front) (map word lines ++ map word back) last)
-    ∙ ap (λ more. first ++ (map word front ++ more)) (append_assoc (map word lines) (map word back) last)
-    ∙ sym (append_assoc first (map word front) (map word lines ++ (map word back ++ last))) in (
+    ∙ ap (λ more. first ++ more) (append_assoc (map word prefix) (map word lines ++ map word back) last)
+    ∙ ap (λ more. first ++ (map word prefix ++ more)) (append_assoc (map word lines) (map word back) last)
+    ∙ sym (append_assoc first (map word prefix) (map word lines ++ (map word back ++ last))) in (
       bytes_of (map word back ++ last),
       ap bytes_of words
-          ∙ flat_map-append (to_le_bytes w32) (first ++ map word front) (map word lines ++ (map word back ++ last))
-          ∙ ap (λ more. bytes_of (first ++ map word front) ++ more) (flat_map-append (to_le_bytes w32) (map word lines) (map word back ++ last)),
+          ∙ flat_map-append (to_le_bytes w32) (first ++ map word prefix) (map word lines ++ (map word back ++ last))
+          ∙ ap (λ more. bytes_of (first ++ map word prefix) ++ more) (flat_map-append (to_le_bytes w32) (map word lines) (map word back ++ last)),
     )
 
 -- lines of an object lie where the objects and the lines before them end
-pub lines_lie : (objects before after : List Object) (object : Object) (front lines back : List Line) → objects ≡ before ++ object ∷ after
-    → object.words ≡ front ++ (lines ++ back)
-    → take (4 * length lines) (drop (4 * (instruction_count before + length front)) (image_bytes objects))
+pub lines_lie : (objects before after : List Object) (object : Object) (prefix lines back : List Line) → objects ≡ before ++ object ∷ after
+    → object.words ≡ prefix ++ (lines ++ back)
+    → take (4 * length lines) (drop (4 * (instruction_count before + length prefix)) (image_bytes objects))
     ≡ bytes_of (map (line_word (name_address objects before object)) lines)
-lines_lie objects before after object front lines back is parts =
+lines_lie objects before after object prefix lines back is parts =
     let word : Line → ℕ = line_word (name_address objects before object) in
     let first : List ℕ = flat_map (λ p. words_of objects p.0 p.1) (with_before [] before) in
-    let split = lines_split objects before after object front lines back is parts in
+    let split = lines_split objects before after object prefix lines back is parts in
     let count = length-words objects [] before in
-    let in_front = length-map front word in
+    let in_front = length-map prefix word in
     let in_lines = length-map lines word in
-    let joined = length-append first (map word front) in
-    let begin = length-bytes (first ++ map word front) in
+    let joined = length-append first (map word prefix) in
+    let begin = length-bytes (first ++ map word prefix) in
     let long = length-bytes (map word lines) in
-    middle (image_bytes objects) (bytes_of (first ++ map word front)) (bytes_of (map word lines)) split.0
-    (4 * (instruction_count before + length front)) (4 * length lines) split.1 (omega arith) (omega arith)
+    middle (image_bytes objects) (bytes_of (first ++ map word prefix)) (bytes_of (map word lines)) split.0
+    (4 * (instruction_count before + length prefix)) (4 * length lines) split.1 (omega arith) (omega arith)
 
 -- a symbol of text at an offset of whole lines is at the address of the line there
 by_section : (section : Section) (objects before after : List Object) (object : Object) (s : ObjectSymbol) (k : ℕ) → section ≡ Text

@@ -100,19 +100,19 @@ own_stands objects before object s distinct among =
     (find_own object.symbols s distinct among)
 
 -- a global symbol stands for its address wherever its name is not the object's own
-pub global_stands : (objects before front back : List Object) (object other : Object) (s : ObjectSymbol) → objects ≡ front ++ other ∷ back
+pub global_stands : (objects before prefix back : List Object) (object other : Object) (s : ObjectSymbol) → objects ≡ prefix ++ other ∷ back
     → duplicates objects ≡ [] → HasDistinctNames other → Contains other.symbols s → s.global ≡ true → defines object s.name ≡ false
-    → name_address objects before object s.name ≡ address_in (begins_of objects front other) s
-global_stands objects before front back object other s is differ distinct among global free =
+    → name_address objects before object s.name ≡ address_in (begins_of objects prefix other) s
+global_stands objects before prefix back object other s is differ distinct among global free =
     let test : SymbolAddress → Bool = λ a. bytes_eq a.name s.name in
-    let first : List SymbolAddress = flat_map (λ p. globals_of objects p.0 p.1) (with_before [] front) in
-    let last : List SymbolAddress = flat_map (λ p. globals_of objects p.0 p.1) (with_before (front ++ other ∷ []) back) in
-    let here : List SymbolAddress = globals_of objects front other in
+    let first : List SymbolAddress = flat_map (λ p. globals_of objects p.0 p.1) (with_before [] prefix) in
+    let last : List SymbolAddress = flat_map (λ p. globals_of objects p.0 p.1) (with_before (prefix ++ other ∷ []) back) in
+    let here : List SymbolAddress = globals_of objects prefix other in
     let found : Option SymbolAddress = find test (here ++ last) in
-    let whole : globals objects ≡ first ++ (here ++ last) = split_before (λ p. globals_of objects p.0 p.1) objects front other back is in
-    let none : find test first ≡ None = find_none test first (any-globals objects s.name [] front ∙ new_name objects front back other s is differ among global) in
-    let some : find test here ≡ Some (addressed (begins_of objects front other) s) = find_global (begins_of objects front other) other.symbols s distinct among global in
-    let is_first : find test (globals objects) ≡ Some (addressed (begins_of objects front other) s) =
+    let whole : globals objects ≡ first ++ (here ++ last) = split_before (λ p. globals_of objects p.0 p.1) objects prefix other back is in
+    let none : find test first ≡ None = find_none test first (any-globals objects s.name [] prefix ∙ new_name objects prefix back other s is differ among global) in
+    let some : find test here ≡ Some (addressed (begins_of objects prefix other) s) = find_global (begins_of objects prefix other) other.symbols s distinct among global in
+    let is_first : find test (globals objects) ≡ Some (addressed (begins_of objects prefix other) s) =
     ap (find test) whole ∙ find-append test first (here ++ last) ∙ ap (λ o. option_or o found) none
     ∙ find-append test here last ∙ ap (λ o. option_or o (find test last)) some in
     ap (λ o. unwrap_or (option_map (address_in (begins_of objects before object)) o) (unwrap_or (global_address (globals objects) s.name) 0))

@@ -39,20 +39,20 @@ pub fn names_have_one_address()
         → HasDistinctNames object → Contains object.symbols symbol
         → name_address objects before object symbol.name
         ≡ symbol_address (section_begin objects before object symbol.section) symbol }
-    ensures global { (objects before front back : List Object) (object other : Object) (symbol : ObjectSymbol)
-        → objects ≡ front ++ other ∷ back → duplicates objects ≡ [] → HasDistinctNames other
+    ensures global { (objects before prefix back : List Object) (object other : Object) (symbol : ObjectSymbol)
+        → objects ≡ prefix ++ other ∷ back → duplicates objects ≡ [] → HasDistinctNames other
         → Contains other.symbols symbol → symbol.global ≡ true → defines object symbol.name ≡ false
         → name_address objects before object symbol.name
-        ≡ symbol_address (section_begin objects front other symbol.section) symbol }
+        ≡ symbol_address (section_begin objects prefix other symbol.section) symbol }
 {}
 
 /// The words of an object's lines lie behind those of the objects and the lines before them, each with its low
 /// byte first, and a symbol's address is that of the line at its offset.
 pub fn lines_lie_in_order()
-    ensures words { (objects before after : List Object) (object : Object) (front lines back : List Line)
-        → objects ≡ before ++ object ∷ after → object.words ≡ front ++ (lines ++ back)
+    ensures words { (objects before after : List Object) (object : Object) (prefix lines back : List Line)
+        → objects ≡ before ++ object ∷ after → object.words ≡ prefix ++ (lines ++ back)
         → take (4 * length lines)
-        (drop (4 * (instruction_count before + length front)) (linked_image objects).bytes)
+        (drop (4 * (instruction_count before + length prefix)) (linked_image objects).bytes)
         ≡ flat_map (to_le_bytes w32) (map (line_word (name_address objects before object)) lines) }
     ensures symbols { (objects before after : List Object) (object : Object) (symbol : ObjectSymbol) (k : ℕ)
         → symbol.section ≡ Text → objects ≡ before ++ object ∷ after → image_size objects ≤ 67108864

@@ -6,17 +6,17 @@ use Rattle.rv_mach.specs.Run.{run_of}
 use Rattle.rv_mach.specs.Code.{HasCode}
 use Rattle.rv_mach.proofs.Keeping.{run_of-image}
 
-pub has-front : (image : List ℕ) (address : ℕ) (front back : List Inst) → HasCode image address (front ++ back) → HasCode image address front
-has-front image address [] back has = tt
-has-front image address (i ∷ front) back has = (has.0, has-front image (address + 4) front back has.1)
+pub has-prefix : (image : List ℕ) (address : ℕ) (prefix back : List Inst) → HasCode image address (prefix ++ back) → HasCode image address prefix
+has-prefix image address [] back has = tt
+has-prefix image address (i ∷ prefix) back has = (has.0, has-prefix image (address + 4) prefix back has.1)
 
-pub has-back : (image : List ℕ) (address : ℕ) (front back : List Inst) → HasCode image address (front ++ back) → HasCode image (address + 4 * length front) back
+pub has-back : (image : List ℕ) (address : ℕ) (prefix back : List Inst) → HasCode image address (prefix ++ back) → HasCode image (address + 4 * length prefix) back
 has-back image address [] back has =
     let here : address ≡ address + 4 * length {A = Inst} [] = omega arith in
     subst (λ a. HasCode image a back) here has
-has-back image address (i ∷ front) back has =
-    let there : address + 4 + 4 * length front ≡ address + 4 * length (i ∷ front) = omega arith in
-    subst (λ a. HasCode image a back) there (has-back image (address + 4) front back has.1)
+has-back image address (i ∷ prefix) back has =
+    let there : address + 4 + 4 * length prefix ≡ address + 4 * length (i ∷ prefix) = omega arith in
+    subst (λ a. HasCode image a back) there (has-back image (address + 4) prefix back has.1)
 
 -- code stays, as no step changes the image
 pub code-stays : (input : List ℕ) (n : ℕ) (m : State) (address : ℕ) (code : List Inst) → HasCode m.image address code

@@ -19,9 +19,9 @@ output-before input n k m within =
     let whole : k ≡ n + (k - n) = omega arith in
     ap (λ s. (run_of input s m).output) whole ∙ ap (λ r. r.output) (run_of-add input n (k - n) m)
 
-none_before : (front back : List ℕ) → front ++ back ≡ [] → front ≡ []
+none_before : (prefix back : List ℕ) → prefix ++ back ≡ [] → prefix ≡ []
 none_before [] back none = refl
-none_before (x ∷ front) back none = absurd (cc)
+none_before (x ∷ prefix) back none = absurd (cc)
 
 pub quiet-before : (input : List ℕ) (n k : ℕ) (m : State) → n ≤ k → (run_of input k m).output ≡ [] → (run_of input n m).output ≡ []
 quiet-before input n k m within quiet = none_before (run_of input n m).output _ (sym (output-before input n k m within) ∙ quiet)

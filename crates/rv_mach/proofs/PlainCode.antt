@@ -97,9 +97,9 @@ plain-straight input (i ∷ next ∷ code) last m computes leaves room =
           (subst (λ n. stack_start ≤ n) (sym (left i.op input i sp m [] is (All-head (λ j. sp ≢ j.rd) i (next ∷ code) leaves))) room),
     )
 
-after_code-append : (input : List ℕ) (front back : List Inst) (r : Run) → after_code input (front ++ back) r ≡ after_code input back (after_code input front r)
+after_code-append : (input : List ℕ) (prefix back : List Inst) (r : Run) → after_code input (prefix ++ back) r ≡ after_code input back (after_code input prefix r)
 after_code-append input [] back r = refl
-after_code-append input (i ∷ front) back r = after_code-append input front back (settled (act_by i.op input i r.machine) r.output)
+after_code-append input (i ∷ prefix) back r = after_code-append input prefix back (settled (act_by i.op input i r.machine) r.output)
 
 -- Code that only computes and then returns: the machine stands where it was called from, with the registers that the code leaves.
 pub record Returned (image input : List ℕ) (code : List Inst) (m : State) (back : ℕ) : Type 0 where

@@ -20,23 +20,23 @@ run_of-suc input n m = refl
 
 -- ---- what was put before changes nothing
 
-pub settled-prefixed : (e : Effect) (front output : List ℕ) → settled e (front ++ output) ≡ prefixed front (settled e output)
-settled-prefixed (falls m) front output = refl
-settled-prefixed (jumps address m) front output = refl
-settled-prefixed (puts byte m) front output =
-    ap (λ bytes. (settled (falls m) bytes)) (append_assoc front output (byte ∷ []))
-settled-prefixed (stops stop m) front output = refl
+pub settled-prefixed : (e : Effect) (prefix output : List ℕ) → settled e (prefix ++ output) ≡ prefixed prefix (settled e output)
+settled-prefixed (falls m) prefix output = refl
+settled-prefixed (jumps address m) prefix output = refl
+settled-prefixed (puts byte m) prefix output =
+    ap (λ bytes. (settled (falls m) bytes)) (append_assoc prefix output (byte ∷ []))
+settled-prefixed (stops stop m) prefix output = refl
 
-step_by-prefixed : (stop : Stop) (input front : List ℕ) (r : Run)
-    → step_by stop input (prefixed front r) ≡ prefixed front (step_by stop input r)
-step_by-prefixed Running input front r =
-    settled-prefixed (executed (instruction r.machine) input r.machine) front r.output
-step_by-prefixed (Exited code) input front r = refl
-step_by-prefixed (Trapped kind) input front r = refl
-step_by-prefixed StackOut input front r = refl
+step_by-prefixed : (stop : Stop) (input prefix : List ℕ) (r : Run)
+    → step_by stop input (prefixed prefix r) ≡ prefixed prefix (step_by stop input r)
+step_by-prefixed Running input prefix r =
+    settled-prefixed (executed (instruction r.machine) input r.machine) prefix r.output
+step_by-prefixed (Exited code) input prefix r = refl
+step_by-prefixed (Trapped kind) input prefix r = refl
+step_by-prefixed StackOut input prefix r = refl
 
-pub step-prefixed : (input front : List ℕ) (r : Run) → step input (prefixed front r) ≡ prefixed front (step input r)
-step-prefixed input front r = step_by-prefixed r.machine.stop input front r
+pub step-prefixed : (input prefix : List ℕ) (r : Run) → step input (prefixed prefix r) ≡ prefixed prefix (step input r)
+step-prefixed input prefix r = step_by-prefixed r.machine.stop input prefix r
 
 pub prefixed-fresh : (r : Run) → r ≡ prefixed r.output (fresh r.machine)
 prefixed-fresh r =

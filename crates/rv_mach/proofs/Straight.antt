@@ -15,11 +15,11 @@ use Rattle.rv_mach.proofs.Steps.{instruction-has, step-at}
 use Rattle.rv_mach.proofs.Keeping.{GoesOn, fallen, act_kept}
 
 -- what was put before changes nothing
-pub after_code-prefixed : (input front : List ℕ) (code : List Inst) (r : Run) → after_code input code (prefixed front r) ≡ prefixed front (after_code input code r)
-after_code-prefixed input front [] r = refl
-after_code-prefixed input front (i ∷ code) r =
-    ap (after_code input code) (settled-prefixed (act input i r.machine) front r.output)
-    ∙ after_code-prefixed input front code (settled (act input i r.machine) r.output)
+pub after_code-prefixed : (input prefix : List ℕ) (code : List Inst) (r : Run) → after_code input code (prefixed prefix r) ≡ prefixed prefix (after_code input code r)
+after_code-prefixed input prefix [] r = refl
+after_code-prefixed input prefix (i ∷ code) r =
+    ap (after_code input code) (settled-prefixed (act input i r.machine) prefix r.output)
+    ∙ after_code-prefixed input prefix code (settled (act input i r.machine) r.output)
 
 -- the step at the first instruction of code
 pub step-code : (input : List ℕ) (r : Run) (i : Inst) → r.machine.stop ≡ Running → stack_start ≤ register sp r.machine

@@ -26,7 +26,7 @@ fresh m = record { machine = m; output = [] }
 
 -- a run that had put these bytes before
 abbrev pub prefixed : List ℕ → Run → Run
-prefixed front r = record { machine = r.machine; output = front ++ r.output }
+prefixed prefix r = record { machine = r.machine; output = prefix ++ r.output }
 
 -- numbers of 64 bits wrap
 abbrev pub wrapped : ℕ → ℕ

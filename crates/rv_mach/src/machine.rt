@@ -90,7 +90,7 @@ impl Machine {
             (O.written out.old) (O.written out.new)) }
         ensures written { IfErr result (λ fault. fault.written ≡ 0) }
         ensures fault { OnErr result (Rose (O.faults out.old) (O.faults out.new)) }
-        ensures kept { OnOk result (O.faults out.new ≡ O.faults out.old) }
+        ensures no_fault { OnOk result (O.faults out.new ≡ O.faults out.old) }
         ensures later { O.faults out.old ≤ O.faults out.new }
     {
         for _ in 0..steps {
@@ -114,7 +114,7 @@ impl Machine {
         ensures nothing_put { OnErr result (Appends (O.written out.old) (O.written out.new) []) }
         ensures written { IfErr result (λ fault. fault.written ≡ 0) }
         ensures fault { OnErr result (Rose (O.faults out.old) (O.faults out.new)) }
-        ensures kept { OnOk result (O.faults out.new ≡ O.faults out.old) }
+        ensures no_fault { OnOk result (O.faults out.new ≡ O.faults out.old) }
         ensures later { O.faults out.old ≤ O.faults out.new }
     {
         let effect = self.effect(input);
@@ -144,7 +144,7 @@ impl Machine {
         ensures nothing_put { OnErr result (Appends (O.written out.old) (O.written out.new) []) }
         ensures written { IfErr result (λ fault. fault.written ≡ 0) }
         ensures fault { OnErr result (Rose (O.faults out.old) (O.faults out.new)) }
-        ensures kept { OnOk result (O.faults out.new ≡ O.faults out.old) }
+        ensures no_fault { OnOk result (O.faults out.new ≡ O.faults out.old) }
         ensures later { O.faults out.old ≤ O.faults out.new }
     {
         match effect {

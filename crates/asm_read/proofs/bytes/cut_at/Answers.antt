@@ -11,5 +11,5 @@ pub loop-at-preserved : goal.loop-at-preserved
 loop-at-preserved c = absent_more _ _ _ c.loop-at-test.true c.loop-at.invariant c.if-bytes-at.false
 
 pub returns : goal.returns
-returns c = λ front back e.
-    not_absent _ front back (subst (IsAbsent c.args.byte) (take_all _ _ c.loop-at-test.false ∙ e) c.loop-at.invariant)
+returns c = λ prefix back e.
+    not_absent _ prefix back (subst (IsAbsent c.args.byte) (take_all _ _ c.loop-at-test.false ∙ e) c.loop-at.invariant)

@@ -1,4 +1,4 @@
-use Rattle.std.proofs.Common.{false, refl, rules, subst, true}
+use Rattle.std.proofs.Common.{false, rules, subst, true}
 use Rattle.ir_rules.specs.Reading.{Gives}
 use Rattle.ir_rules.proofs.Repeats.{first_and_each}
 use Rattle.ir_body.specs.Blocks.{blocks}

@@ -1,4 +1,4 @@
-use Rattle.std.proofs.Common.{List, refl, rules, subst}
+use Rattle.std.proofs.Common.{refl, rules, subst}
 use Rattle.ir_words.specs.declared.class.Class.TheVariants as class
 use Rattle.ir_rules.specs.Reading.{Gives}
 use Rattle.ir_rules.specs.Rules.{◌▷◌}

@@ -1,6 +1,5 @@
-use Rattle.std.proofs.Common.{◌++◌, ap, rules, ◌∙◌, Ok, refl, List}
+use Rattle.std.proofs.Common.{◌++◌, ap, rules, ◌∙◌, Ok}
 use Rattle.std.proofs.lemmas.List.{append-nil}
-use Rattle.ir_rules.specs.Rules.{Rule}
 use Rattle.ir_rules.proofs.Repeats.{appended, each_ended, each_fails, each_steps}
 use Rattle.ir_rules.proofs.Whole.{read_shorter}
 use Rattle.ir_rules.proofs.repeated.append_each.Goals as goal

@@ -1,5 +1,4 @@
 use Rattle.std.proofs.Common.{rules, refl}
-use Rattle.ir_rules.specs.Rules.{Rule}
 use Rattle.ir_rules.proofs.Repeats.{each_ended, each_fails, each_steps}
 use Rattle.ir_rules.proofs.Whole.{read_shorter}
 use Rattle.ir_rules.proofs.repeated.skip_each.Goals as goal

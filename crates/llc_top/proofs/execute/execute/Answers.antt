@@ -32,7 +32,7 @@ returns-in-Ok-tell_stop g c =
         appended = subst (λ (m : State). Appends (g.O.Sink.written c.args.out.now) (g.O.Sink.written c.run.new.out)
             (run_of c.args.command.now.input c.args.command.now.steps m).output) c.in-Ok.ensures
             (rw (c.input.ensures, c.steps.ensures) at c.in-Ok-run.ensures.output);
-        no_fault = c.in-Ok-run.ensures.kept;
+        no_fault = c.in-Ok-run.ensures.no_fault;
       };
       errors = subst (λ (s : Stop). TellsAll (ended (stop_text s)) (sink_change g.E.Sink.written g.E.Sink.faults c.args.err.now c.tell_stop.new.err)) stop
           c.in-Ok-tell_stop.ensures.all;
@@ -48,7 +48,7 @@ returns g c =
         appended = subst (λ (m : State). Appends (g.O.Sink.written c.args.out.now) (g.O.Sink.written c.run.new.out)
             (run_of c.args.command.now.input c.args.command.now.steps m).output) c.in-Ok.ensures
             (rw (c.input.ensures, c.steps.ensures) at c.in-Ok-run.ensures.output);
-        no_fault = c.in-Ok-run.ensures.kept;
+        no_fault = c.in-Ok-run.ensures.no_fault;
       },
       subst (λ (s : Stop). CutOff (ended (stop_text s)) (sink_change g.E.Sink.written g.E.Sink.faults c.args.err.now c.tell_stop.new.err)) stop
           c.in-Err.ensures.cut_off,

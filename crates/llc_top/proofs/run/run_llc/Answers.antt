@@ -1,6 +1,6 @@
 use Rattle.std.proofs.Common.{String, Global, map, string_bytes}
 use Rattle.llc_top.specs.Streams.{source_change, sink_change}
-use Rattle.llc_top.proofs.Answering.{answer-kept_err, answer-kept_out, answer-read_fault, answer-words, answer-write_fault}
+use Rattle.llc_top.proofs.Answering.{answer-no_err_fault, answer-no_out_fault, answer-read_fault, answer-words, answer-write_fault}
 use Rattle.llc_top.proofs.Apart.{answer_headline}
 use Rattle.llc_top.proofs.run.run_llc.Goals as goal
 
@@ -36,17 +36,17 @@ returns-clause-write_fault g c =
     (sink_change g.E.Sink.written g.E.Sink.faults c.args.err.now c.run_command.new.err)
     c.run_command.result c.run_command.ensures.answer
 
-pub returns-clause-kept_out : goal.returns-clause-kept_out
-returns-clause-kept_out g c =
-    answer-kept_out (map (λ (word : String Global). string_bytes word) c.args.words.now)
+pub returns-clause-no_out_fault : goal.returns-clause-no_out_fault
+returns-clause-no_out_fault g c =
+    answer-no_out_fault (map (λ (word : String Global). string_bytes word) c.args.words.now)
     (source_change g.S.Source.left g.S.Source.faults c.args.src.now c.run_command.new.src)
     (sink_change g.O.Sink.written g.O.Sink.faults c.args.out.now c.run_command.new.out)
     (sink_change g.E.Sink.written g.E.Sink.faults c.args.err.now c.run_command.new.err)
     c.run_command.result c.run_command.ensures.answer
 
-pub returns-clause-kept_err : goal.returns-clause-kept_err
-returns-clause-kept_err g c =
-    answer-kept_err (map (λ (word : String Global). string_bytes word) c.args.words.now)
+pub returns-clause-no_err_fault : goal.returns-clause-no_err_fault
+returns-clause-no_err_fault g c =
+    answer-no_err_fault (map (λ (word : String Global). string_bytes word) c.args.words.now)
     (source_change g.S.Source.left g.S.Source.faults c.args.src.now c.run_command.new.src)
     (sink_change g.O.Sink.written g.O.Sink.faults c.args.out.now c.run_command.new.out)
     (sink_change g.E.Sink.written g.E.Sink.faults c.args.err.now c.run_command.new.err)

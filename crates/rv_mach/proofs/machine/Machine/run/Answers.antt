@@ -36,6 +36,6 @@ returns-in_default g c =
       cut_off = tt;
       written = tt;
       fault = tt;
-      kept = search rules;
+      no_fault = search rules;
       later = search rules;
     }
