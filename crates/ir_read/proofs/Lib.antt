@@ -1,10 +1,4 @@
-pub mod Begun
-pub mod BlockParts
 pub mod Ends
-pub mod EntityLaws
 pub mod OneAnswer
-pub mod Placing
 pub mod Settled
 pub mod SomeAnswer
-pub mod Unended
-pub mod Walks

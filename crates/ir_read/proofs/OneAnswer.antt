@@ -10,9 +10,9 @@ use Rattle.ir_names.specs.Least.{least}
 use Rattle.ir_numbers.specs.Modules.{module_of}
 use Rattle.ir_numbers.specs.Numbered.{numbered_entities}
 use Rattle.ir_entities.specs.declared.entity.Entity.{Entity}
-use Rattle.ir_read.proofs.EntityLaws.{modules_law}
+use Rattle.ir_items.proofs.EntityLaws.{modules_law}
 use Rattle.ir_read.proofs.Settled.{no_tokens, same_found, same_tokens}
-use Rattle.ir_read.specs.Entities.{modules}
+use Rattle.ir_items.specs.Entities.{modules}
 use Rattle.ir_read.specs.Modules.{IsAnswer, IsFirstRefusal, IsNamed, IsNameFault, Reads}
 use Rattle.ir_read.specs.Refusals.{IsAllocaRefusal, IsModule, IsRefusedAt, IsTokenRefusal, Refuses}
 use Rattle.ir_rules.proofs.Whole.{accepts}

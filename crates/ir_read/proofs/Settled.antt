@@ -8,10 +8,10 @@ use Rattle.ir_syntax.specs.declared.refusal.Refusal.{Refusal}
 use Rattle.ir_words.specs.Lexemes.{Lexeme, lexemes}
 use Rattle.ir_rules.specs.Reading.{Reads, read_all}
 use Rattle.ir_rules.proofs.Whole.{read_all_reads}
-use Rattle.ir_read.specs.Entities.{modules}
+use Rattle.ir_items.specs.Entities.{modules}
 use Rattle.ir_read.specs.Refusals.{IsModule, IsRefusal, OrNoMemory, Settles}
 use Rattle.ir_entities.specs.declared.entity.Entity.{Entity}
-use Rattle.ir_read.proofs.EntityLaws.{modules_law}
+use Rattle.ir_items.proofs.EntityLaws.{modules_law}
 
 pub same_tokens : (read : Result (List Token) ℕ) (a b : List Token) → read ≡ Ok a → read ≡ Ok b → a ≡ b
 same_tokens read a b e f = cc

@@ -8,12 +8,12 @@ use Rattle.ir_names.specs.Least.{earlier_of, least}
 use Rattle.ir_numbers.specs.Modules.{module_of}
 use Rattle.ir_numbers.specs.Numbered.{numbered_entities}
 use Rattle.ir_entities.specs.declared.entity.Entity.{Entity}
-use Rattle.ir_read.proofs.EntityLaws.{entities_law, modules_law}
+use Rattle.ir_items.proofs.EntityLaws.{entities_law, modules_law}
 use Rattle.ir_read.proofs.OneAnswer.{answer_once}
-use Rattle.ir_read.proofs.Placing.{placed, placed_outside}
-use Rattle.ir_read.proofs.Walks.{after_items, one_more}
-use Rattle.ir_read.specs.Entities.{entities, entity_firsts, modules}
-use Rattle.ir_read.specs.FirstBlocks.{IsInFirstBlock, Tells, TellsFirstBlock, stops_in_block}
+use Rattle.ir_items.proofs.Placing.{placed, placed_outside}
+use Rattle.ir_items.proofs.Walks.{after_items, one_more}
+use Rattle.ir_items.specs.Entities.{entities, entity_firsts, modules}
+use Rattle.ir_items.specs.FirstBlocks.{IsInFirstBlock, Tells, TellsFirstBlock, stops_in_block}
 use Rattle.ir_read.specs.Modules.{HasOneAnswer, IsAnswer}
 use Rattle.ir_read.specs.Refusals.{IsAllocaRefusal, IsModule, IsRefusedAt, Refuses, last_line, refused, refused_alloca}
 use Rattle.ir_rules.proofs.Whole.{read_all_reads, read_shorter}

@@ -1,4 +1,2 @@
-pub mod Entities
-pub mod FirstBlocks
 pub mod Modules
 pub mod Refusals

@@ -10,8 +10,8 @@ use Rattle.ir_words.specs.Lexemes.{Lexeme, lexemes}
 use Rattle.ir_words.specs.declared.class.Class.{Class}
 use Rattle.ir_words.specs.declared.class.Class.TheVariants.{Alloca}
 use Rattle.ir_rules.specs.Reading.{IsFirstBad}
-use Rattle.ir_read.specs.Entities.{modules}
-use Rattle.ir_read.specs.FirstBlocks.{IsInFirstBlock}
+use Rattle.ir_items.specs.Entities.{modules}
+use Rattle.ir_items.specs.FirstBlocks.{IsInFirstBlock}
 use Rattle.ir_entities.specs.declared.entity.Entity.{Entity}
 
 -- the line of the last token, or 1 where there is none

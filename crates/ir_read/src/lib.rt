@@ -1,10 +1,8 @@
 //! The reader of modules of textual LLVM IR (LLVM Language Reference Manual, "Module Structure").
 #![tactic(auto)]
 
-mod first_block;
 mod module;
 mod reading;
-mod top;
 
 pub use ir_entities::{Entities, Entity};
 pub use module::{read_module, texts_have_one_answer};

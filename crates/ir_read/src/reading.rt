@@ -4,12 +4,11 @@ ghost use Rattle.ir_words.specs.Classes.{head_line, head_text};
 ghost use Rattle.ir_words.specs.Lexemes.{lexemes};
 ghost use Rattle.ir_syntax.specs.declared.refusal.Refusal.TheVariants.{Unsupported};
 ghost use Rattle.ir_rules.specs.Reading.{Gives, read_all};
-ghost use Rattle.ir_read.specs.Entities.{modules};
+ghost use Rattle.ir_items.specs.Entities.{modules};
 ghost use Rattle.ir_read.specs.Refusals.{IsModule, IsRefusal, IsRefusedAt, OrNoMemory, Settles, last_line, refused, refused_alloca};
 
-use crate::first_block::is_in_first_block;
-use crate::top::read_items;
 use ir_entities::Entities;
+use ir_items::{is_in_first_block, read_items};
 use ir_lex::{LexEnd, tokens};
 use ir_rules::{End, bad};
 use ir_syntax::{Bytes, Refusal};

@@ -3,10 +3,10 @@ use Rattle.std.specs.Prelude.{Option, filter_map}
 use Rattle.std.proofs.lemmas.List.{append-nil}
 use Rattle.ir_rules.proofs.Repeats.{each_ended, each_fails, each_steps, sifted}
 use Rattle.ir_rules.proofs.Whole.{read_shorter}
-use Rattle.ir_read.specs.Entities.{entities, modules}
+use Rattle.ir_items.specs.Entities.{entities, modules}
 use Rattle.ir_entities.specs.declared.entity.Entity.{Entity}
-use Rattle.ir_read.proofs.EntityLaws.{entities_law}
-use Rattle.ir_read.proofs.top.read_items.Goals as goal
+use Rattle.ir_items.proofs.EntityLaws.{entities_law}
+use Rattle.ir_items.proofs.items.read_items.Goals as goal
 
 pub returns-in_err-found : goal.returns-in_err-found
 returns-in_err-found c =

@@ -13,11 +13,11 @@ use Rattle.ir_rules.proofs.Sets.{apart_is}
 use Rattle.ir_rules.proofs.Words.{word_law}
 use Rattle.ir_body.specs.Blocks.{blocks}
 use Rattle.ir_body.proofs.BlockLaws.{blocks_law}
-use Rattle.ir_read.specs.Entities.{entities, entity_forms, item_entities, module_forms, modules, no_entity, type_defs}
+use Rattle.ir_items.specs.Entities.{entities, entity_forms, item_entities, module_forms, modules, no_entity, type_defs}
 use Rattle.ir_functions.specs.Functions.{OpeningParts, block_lists, closed_block_forms, closed_blocks, declarations, definition_forms, definition_of, definitions, openings}
 use Rattle.ir_globals.specs.Variables.{global_entities}
 use Rattle.ir_entities.specs.declared.entity.Entity.{Entity}
-use Rattle.ir_read.proofs.Begun.{first_begun, item_begun, made_begun, second_begun}
+use Rattle.ir_items.proofs.Begun.{first_begun, item_begun, made_begun, second_begun}
 use Rattle.ir_functions.proofs.FunctionLaws.{openings_law}
 
 -- what is read where a part is bad

@@ -7,7 +7,7 @@ use Rattle.ir_words.specs.declared.class.Class.TheVariants.{Alloca}
 use Rattle.ir_rules.specs.Reading.{Begins, read_all}
 use Rattle.ir_rules.specs.Rules.{Answer, each}
 use Rattle.ir_body.specs.Blocks.{blocks}
-use Rattle.ir_read.specs.Entities.{entities, modules}
+use Rattle.ir_items.specs.Entities.{entities, modules}
 use Rattle.ir_functions.specs.Functions.{OpeningParts, openings}
 use Rattle.ir_entities.specs.declared.entity.Entity.{Entity}
 

@@ -16,15 +16,15 @@ use Rattle.ir_rules.proofs.Sets.{within_is}
 use Rattle.ir_rules.proofs.Whole.{read_all_reads}
 use Rattle.ir_body.specs.Blocks.{blocks}
 use Rattle.ir_body.proofs.BlockLaws.{blocks_law}
-use Rattle.ir_read.specs.Entities.{entities, entity_firsts, modules}
-use Rattle.ir_read.specs.FirstBlocks.{IsInFirstBlock, TellsFirstBlock, is_bad, stops_behind, stops_in_block}
+use Rattle.ir_items.specs.Entities.{entities, entity_firsts, modules}
+use Rattle.ir_items.specs.FirstBlocks.{IsInFirstBlock, TellsFirstBlock, is_bad, stops_behind, stops_in_block}
 use Rattle.ir_functions.specs.Functions.{OpeningParts, openings}
 use Rattle.ir_entities.specs.declared.entity.Entity.{Entity}
-use Rattle.ir_read.proofs.BlockParts.{entity_bad, module_bad, module_begun, opening_begins}
-use Rattle.ir_read.proofs.EntityLaws.{entities_law, modules_law}
+use Rattle.ir_items.proofs.BlockParts.{entity_bad, module_bad, module_begun, opening_begins}
+use Rattle.ir_items.proofs.EntityLaws.{entities_law, modules_law}
 use Rattle.ir_functions.proofs.FunctionLaws.{openings_law}
-use Rattle.ir_read.proofs.Unended.{unended_stops}
-use Rattle.ir_read.proofs.Walks.{after_items, walk_bad, walk_same, walk_text}
+use Rattle.ir_items.proofs.Unended.{unended_stops}
+use Rattle.ir_items.proofs.Walks.{after_items, walk_bad, walk_same, walk_text}
 
 both : (b : Bool) → b ≡ true → b ≡ false → ⊥
 both b e f = absurd (cc)

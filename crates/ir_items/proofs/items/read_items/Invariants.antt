@@ -2,9 +2,9 @@ use Rattle.std.proofs.Common.{◌≡◌, ◌++◌, List, length}
 use Rattle.std.specs.Prelude.{Option, filter_map}
 use Rattle.ir_rules.specs.Rules.{each}
 use Rattle.ir_rules.specs.Repeats.{into}
-use Rattle.ir_read.specs.Entities.{entities, modules}
+use Rattle.ir_items.specs.Entities.{entities, modules}
 use Rattle.ir_entities.specs.declared.entity.Entity.{Entity}
-use Rattle.ir_read.proofs.top.read_items.Given as goal
+use Rattle.ir_items.proofs.items.read_items.Given as goal
 
 abbrev pub invariant-loop-alloc : goal.invariant-loop-alloc
 invariant-loop-alloc l = into (λ (found : List (Option Entity)). l.list.items ++ filter_map (λ e. e) found) ((each entities).read l.rest) ≡ modules.read l.fn.rest

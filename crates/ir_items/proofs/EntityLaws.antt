@@ -8,7 +8,7 @@ use Rattle.ir_rules.proofs.Laws.{either_lawful, made_lawful, seq_lawful, within_
 use Rattle.ir_rules.proofs.Words.{before_law}
 use Rattle.ir_attributes.proofs.IgnoredLaws.{ignored_law}
 use Rattle.ir_types.proofs.TypeLaws.{local_uses_law, structs_law, types_law}
-use Rattle.ir_read.specs.Entities.{entities, entity_forms, module_forms, modules, type_def_forms, type_def_of, type_defs}
+use Rattle.ir_items.specs.Entities.{entities, entity_forms, module_forms, modules, type_def_forms, type_def_of, type_defs}
 use Rattle.ir_entities.specs.declared.entity.Entity.{Entity}
 use Rattle.ir_functions.proofs.FunctionLaws.{declarations_law, definitions_law}
 use Rattle.ir_globals.proofs.VariableLaws.{global_entities_law}

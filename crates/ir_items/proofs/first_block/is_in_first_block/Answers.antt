@@ -1,10 +1,10 @@
 use Rattle.std.proofs.Common.{refl, rules, suc}
 use Rattle.ir_rules.proofs.Whole.{read_shorter}
-use Rattle.ir_read.specs.Entities.{entities}
-use Rattle.ir_read.proofs.EntityLaws.{entities_law}
-use Rattle.ir_read.proofs.Placing.{placed_by, placed_outside}
-use Rattle.ir_read.proofs.Walks.{one_more}
-use Rattle.ir_read.proofs.first_block.is_in_first_block.Goals as goal
+use Rattle.ir_items.specs.Entities.{entities}
+use Rattle.ir_items.proofs.EntityLaws.{entities_law}
+use Rattle.ir_items.proofs.Placing.{placed_by, placed_outside}
+use Rattle.ir_items.proofs.Walks.{one_more}
+use Rattle.ir_items.proofs.first_block.is_in_first_block.Goals as goal
 
 pub returns-in-Err-Bad : goal.returns-in-Err-Bad
 returns-in-Err-Bad c =

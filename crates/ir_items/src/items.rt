@@ -2,7 +2,7 @@
 ghost use Rattle.std.specs.Prelude.{◌≡◌, Some};
 ghost use Rattle.ir_rules.specs.Reading.{Gives};
 ghost use Rattle.ir_rules.specs.Rules.{has};
-ghost use Rattle.ir_read.specs.Entities.{entities, entity_firsts, item_entities, item_firsts, modules, no_entity, type_defs};
+ghost use Rattle.ir_items.specs.Entities.{entities, entity_firsts, item_entities, item_firsts, modules, no_entity, type_defs};
 
 use ir_attributes::{begins_ignored, skip_ignored};
 use ir_entities::Entity;
@@ -110,10 +110,7 @@ pub(crate) fn begins_entity(class: Class) -> bool
 ///
 /// `Bad` at the first token that can't stand there, `NoMemory` if memory runs out.
 #[tactic(auto, unfolding(crate::specs::Entities::module_forms))]
-pub(crate) fn read_items<'t>(
-    alloc: Global,
-    rest: Cursor<'t>,
-) -> Result<(Vec<Entity>, Cursor<'t>), End>
+pub fn read_items<'t>(alloc: Global, rest: Cursor<'t>) -> Result<(Vec<Entity>, Cursor<'t>), End>
     ensures { Gives (λ x. (x.0.items, x.1)) result (modules.read rest.entry) }
 {
     let mut rest = rest;

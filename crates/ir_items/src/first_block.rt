@@ -1,9 +1,9 @@
 //! The first block of a function, the one that may allocate (LangRef, "alloca Instruction").
 ghost use Rattle.std.specs.Prelude.{◌≡◌, true, IfOk};
 ghost use Rattle.ir_body.specs.Blocks.{blocks};
-ghost use Rattle.ir_read.specs.FirstBlocks.{TellsFirstBlock, is_bad, stops_in_block};
+ghost use Rattle.ir_items.specs.FirstBlocks.{TellsFirstBlock, is_bad, stops_in_block};
 
-use crate::top::{begins_entity, read_entity};
+use crate::items::{begins_entity, read_entity};
 use ir_body::read_block;
 use ir_functions::read_opening;
 use ir_rules::End;
@@ -44,7 +44,7 @@ fn begins_no_block(alloc: Global, rest: Cursor<'_>) -> Result<bool, AllocError>
 /// # Errors
 ///
 /// [`AllocError`].
-pub(crate) fn is_in_first_block(alloc: Global, rest: Cursor<'_>) -> Result<bool, AllocError>
+pub fn is_in_first_block(alloc: Global, rest: Cursor<'_>) -> Result<bool, AllocError>
     ensures { IfOk result (TellsFirstBlock rest.entry) }
 {
     let mut rest = rest;
