@@ -16,6 +16,9 @@ enum Cut {
     Long,
 }
 
+/// The tables, and what holds of the cuts of their texts.
+const TABLES: &[(Cut, &str)] = &[(Cut::Open, OPEN), (Cut::Held, HELD), (Cut::Long, LONG)];
+
 /// A text with each token on a line of its own, and this word on the last one.
 fn lines_of(alloc: Global, text: &[u8], word: &[u8]) -> Result<Vec<u8>, AllocError> {
     let mut lines = Vec::new(alloc);
@@ -65,21 +68,19 @@ fn is_cut_well(alloc: Global, text: &[u8], cut: Cut) -> bool {
     matches!(told_with(alloc, text, b""), Told::Items(_))
 }
 
-/// The number of the first of these texts that has a cut which is not refused, counted from 1, or 0.
-fn wrong_text(alloc: Global, rows: &str, cut: Cut) -> usize {
-    let mut number: usize = 0;
+/// The first of these texts that has a cut which is not refused.
+fn first_wrong(alloc: Global, rows: &'static str, cut: Cut) -> Option<&'static str> {
     for row in rows.lines() {
-        number = number.saturating_add(1);
         if !row.is_empty() && !is_cut_well(alloc, row.as_bytes(), cut) {
-            return number;
+            return Some(row);
         }
     }
-    0
+    None
 }
 
 #[test]
 fn texts_are_cut_behind_each_token(rt: HostRuntime) {
-    assert_eq!(rt; wrong_text(rt.alloc(), OPEN, Cut::Open), 0);
-    assert_eq!(rt; wrong_text(rt.alloc(), HELD, Cut::Held), 0);
-    assert_eq!(rt; wrong_text(rt.alloc(), LONG, Cut::Long), 0);
+    for (cut, rows) in TABLES {
+        assert_eq!(rt; first_wrong(rt.alloc(), rows, *cut), None);
+    }
 }
