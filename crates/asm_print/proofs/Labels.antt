@@ -5,7 +5,7 @@ use Rattle.std.proofs.lemmas.Bool.{and_parts, false_from_ne_true}
 use Rattle.std.proofs.lemmas.Bool.Decides.{Decides-eqb}
 use Rattle.std.proofs.lemmas.Slice.Eq.{starts_is}
 use Rattle.rv_isa.specs.Symbol.{IsLabel, is_digit, is_number, spelled}
-use Rattle.asm_read.proofs.SymbolLemmas.{how_spelled}
+use Rattle.asm_line.proofs.SymbolLemmas.{how_spelled}
 use Rattle.asm_print.specs.Symbols.{after_leading, is_label, is_number_pair, leading}
 
 leading_whole : (test : ℕ → Bool) (bytes : List ℕ) → leading test bytes ++ after_leading test bytes ≡ bytes

@@ -11,10 +11,10 @@ use Rattle.rv_isa.specs.Text.{instruction_line}
 use Rattle.rv_isa.specs.declared.inst.Inst.{Inst}
 use Rattle.rv_isa.specs.declared.statement.Statement.{Statement}
 use Rattle.rv_isa.specs.declared.statement.Statement.TheVariants.{Text, Global, Align, Define, Code}
-use Rattle.asm_read.specs.Statements.{IsRead, IsStatement, defined, exported}
-use Rattle.asm_read.proofs.CodeLemmas.{are_calm, code_calm, is_calm}
-use Rattle.asm_read.proofs.LineLemmas.{li_line, mv_line}
-use Rattle.asm_read.proofs.SymbolLemmas.{how_spelled}
+use Rattle.asm_line.specs.Statements.{IsRead, IsStatement, defined, exported}
+use Rattle.asm_line.proofs.CodeLemmas.{are_calm, code_calm, is_calm}
+use Rattle.asm_line.proofs.LineLemmas.{li_line, mv_line}
+use Rattle.asm_line.proofs.SymbolLemmas.{how_spelled}
 use Rattle.asm_print.specs.Symbols.{after_percent, defined_in, exported_in, is_label, leading, needed_in, one_symbol, quoted_prefix, symbol_at}
 use Rattle.asm_print.proofs.Labels.{no_label}
 

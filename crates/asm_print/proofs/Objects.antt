@@ -10,7 +10,7 @@ use Rattle.rv_isa.specs.declared.inst.Line.TheVariants.{Plain}
 use Rattle.rv_isa.specs.declared.statement.Statement.{Statement}
 use Rattle.rv_isa.specs.declared.statement.Statement.TheVariants.{Text, Align, Define, Code}
 use Rattle.asm_read.specs.Assembly.{IsObjectOf, exports, symbols_after, words}
-use Rattle.asm_read.specs.Statements as statement
+use Rattle.asm_line.specs.Statements as statement
 use Rattle.asm_read.specs.declared.object.ObjectSymbol.{ObjectSymbol}
 use Rattle.asm_read.specs.declared.object.Section as section
 use Rattle.asm_print.specs.Items.{Item, export_of, item_statements, items_code, object_of, statements_of, symbols_from}

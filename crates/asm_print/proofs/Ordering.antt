@@ -11,7 +11,7 @@ use Rattle.rv_isa.specs.declared.statement.Statement.{Statement}
 use Rattle.rv_isa.specs.declared.statement.Statement.TheVariants.{Text, Global, Align, Define, Code}
 use Rattle.asm_read.proofs.ReadLemmas.{contains_first, contains_more, first_or_more}
 use Rattle.asm_read.specs.Assembly.{AreOrdered}
-use Rattle.asm_read.specs.Statements.{IsStatement, defined}
+use Rattle.asm_line.specs.Statements.{IsStatement, defined}
 use Rattle.asm_print.specs.Items.{AreItems, IsItem, Item, export_of, item_statements, statements_of}
 use Rattle.asm_print.proofs.Projections.{items_define}
 

@@ -7,7 +7,7 @@ use Rattle.rv_isa.specs.declared.inst.Inst.{Inst}
 use Rattle.rv_isa.specs.declared.statement.Statement.{Statement}
 use Rattle.rv_isa.specs.declared.statement.Statement.TheVariants.{Text, Global, Align, Define, Code}
 use Rattle.asm_read.specs.Assembly.{exports}
-use Rattle.asm_read.specs.Statements.{defined, exported}
+use Rattle.asm_line.specs.Statements.{defined, exported}
 use Rattle.asm_print.specs.Items.{Item, export_of, item_statements, statements_of}
 
 code_defines : (code : List Inst) → filter_map defined (map (λ inst. Code inst) code) ≡ []

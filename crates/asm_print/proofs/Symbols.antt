@@ -9,7 +9,7 @@ use Rattle.rv_isa.specs.Lines.{pieces_of}
 use Rattle.rv_isa.specs.Statements.{statement_line}
 use Rattle.rv_isa.specs.Symbol.{spelled}
 use Rattle.rv_isa.specs.declared.statement.Statement.{Statement}
-use Rattle.asm_read.specs.Statements.{IsStatement, defined, exported}
+use Rattle.asm_line.specs.Statements.{IsStatement, defined, exported}
 use Rattle.asm_read.proofs.PieceLemmas.{lines_of_statements}
 use Rattle.asm_print.specs.Items.{IsItem, Item, items_text, statements_of, statements_text}
 use Rattle.asm_print.specs.Symbols.{defined_in, exported_in, globals_of, needed_in, needs_of, symbols_of}

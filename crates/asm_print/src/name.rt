@@ -4,7 +4,7 @@ ghost use Rattle.std.specs.List.{flat_map};
 ghost use Rattle.rv_isa.specs.Symbol.{escaped, spelled};
 
 use crate::instruction::push_text;
-use asm_read::is_bare;
+use asm_line::is_bare;
 use std::alloc::AllocError;
 
 /// Writes a name: as it is where it may stand without quotes, else with escapes between quotes.

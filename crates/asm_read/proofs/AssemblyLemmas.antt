@@ -5,15 +5,15 @@ use Rattle.std.proofs.lemmas.List.Elements.{All-cons, All-head, All-nil, All-tai
 use Rattle.std.specs.List.{list_any}
 use Rattle.asm_read.specs.Assembly.{Assembles, IsObjectOf, is_some_and, HasLines, IsAssembly, IsBadLine, IsFirstBad, IsRefusal, defines}
 use Rattle.asm_read.specs.Checks.{AreRead, IsFirstRefused, IsRefused, statements_in, refuses, refuses_at}
-use Rattle.asm_read.specs.Statements.{IsStatement, opens}
+use Rattle.asm_line.specs.Statements.{IsStatement, opens}
 use Rattle.rv_isa.specs.declared.inst.Line.{Line}
 use Rattle.rv_isa.specs.declared.statement.Statement.{Statement}
 use Rattle.asm_read.specs.declared.object.Object.{Object}
 use Rattle.asm_read.specs.declared.object.ObjectSymbol.{ObjectSymbol}
 use Rattle.asm_read.specs.declared.refusal.AsmRefusal.TheVariants.{Line as RefusedLine}
 use Rattle.asm_read.proofs.BadLemmas.{passed_is_not_bad, read_length, refused_is_bad}
-use Rattle.asm_read.proofs.BytesLemmas.{tail_same}
-use Rattle.asm_read.proofs.StatementLemmas.{statement_once}
+use Rattle.asm_line.proofs.BytesLemmas.{tail_same}
+use Rattle.asm_line.proofs.StatementLemmas.{statement_once}
 use Rattle.rv_isa.specs.Statements.{statement_line}
 use Rattle.asm_read.proofs.PieceLemmas.{lines_of_statements, lines_once, text_is_lines}
 

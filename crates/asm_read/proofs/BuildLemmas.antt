@@ -13,7 +13,7 @@ use Rattle.rv_isa.specs.declared.statement.Statement.{Statement}
 use Rattle.rv_isa.specs.declared.statement.Statement.TheVariants.{Code}
 use Rattle.asm_read.specs.Assembly.{exports, is_some_and, symbol_at, symbols_after, words}
 use Rattle.asm_read.specs.Checks.{in_line, statements_in}
-use Rattle.asm_read.specs.Statements.{IsRead, IsStatement, code, defined}
+use Rattle.asm_line.specs.Statements.{IsRead, IsStatement, code, defined}
 use Rattle.asm_read.specs.declared.object.ObjectSymbol.{ObjectSymbol}
 use Rattle.asm_read.specs.declared.object.Section as section
 

@@ -6,7 +6,7 @@ use Rattle.std.proofs.lemmas.List.Folds.{list_any_more}
 use Rattle.std.specs.List.{list_any}
 use Rattle.asm_read.specs.Assembly.{defines, is_some_and, needs_section}
 use Rattle.asm_read.specs.Checks.{refuses, refuses_at}
-use Rattle.asm_read.specs.Statements.{defined, exported, opens}
+use Rattle.asm_line.specs.Statements.{defined, exported, opens}
 use Rattle.rv_isa.specs.declared.statement.Statement.{Statement}
 
 joined : (a b x y : Bool) → a ≡ x → b ≡ y → (a || b) ≡ (x || y)

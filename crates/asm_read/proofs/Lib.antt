@@ -1,16 +1,7 @@
-pub mod BytesLemmas
-pub mod NumberLemmas
-pub mod SymbolLemmas
-pub mod LabelLemmas
-pub mod RegisterLemmas
-pub mod LineLemmas
 pub mod NameLemmas
 pub mod CheckLemmas
 pub mod TextLemmas
 pub mod BuildLemmas
-pub mod StatementLemmas
-pub mod CodeLemmas
-pub mod FeedLemmas
 pub mod PieceLemmas
 pub mod ReadLemmas
 pub mod BadLemmas

@@ -7,10 +7,10 @@ use Rattle.std.specs.List.{Contains}
 use Rattle.rv_isa.specs.Lines.{text_of_lines}
 use Rattle.asm_read.specs.Assembly.{AreOrdered, IsAssembly, IsBad, IsBadLine, needs_section}
 use Rattle.asm_read.specs.Assembly.IsBad.{outside, early, again, unknown}
-use Rattle.asm_read.specs.Statements.{IsStatement, Says}
+use Rattle.asm_line.specs.Statements.{IsStatement, Says}
 use Rattle.rv_isa.specs.declared.statement.Statement.{Statement}
 use Rattle.rv_isa.specs.declared.statement.Statement.TheVariants.{Text, Global, Define}
-use Rattle.asm_read.proofs.StatementLemmas.{statement_once, said_once}
+use Rattle.asm_line.proofs.StatementLemmas.{statement_once, said_once}
 use Rattle.rv_isa.specs.Statements.{statement_line}
 use Rattle.asm_read.proofs.ReadLemmas.{contains_first, contains_more, first_or_more}
 

@@ -6,11 +6,11 @@ use Rattle.std.specs.List.{Contains, list_any}
 use Rattle.rv_isa.specs.Statements.{statement_line}
 use Rattle.asm_read.specs.Assembly.{defines, is_some_and}
 use Rattle.asm_read.specs.Checks.{AreRead}
-use Rattle.asm_read.specs.Statements.{IsStatement, Says, opens}
-use Rattle.asm_read.specs.Readings.{Reads}
+use Rattle.asm_line.specs.Statements.{IsStatement, Says, opens}
+use Rattle.asm_line.specs.Readings.{Reads}
 use Rattle.rv_isa.specs.declared.statement.Statement.{Statement}
 use Rattle.rv_isa.specs.declared.statement.Statement.TheVariants.{Text, Define}
-use Rattle.asm_read.proofs.StatementLemmas.{said_once}
+use Rattle.asm_line.proofs.StatementLemmas.{said_once}
 
 -- a line is read as what it says
 pub reads_that : (line : List ℕ) (reading : Option Statement) (statement : Statement) → Reads (Says line) reading → Says line statement → reading ≡ Some statement

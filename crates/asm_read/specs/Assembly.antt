@@ -7,7 +7,7 @@ use Rattle.rv_isa.specs.Statements.{statement_line}
 use Rattle.rv_isa.specs.declared.inst.Line.{Line}
 use Rattle.rv_isa.specs.declared.statement.Statement.{Statement}
 use Rattle.rv_isa.specs.declared.statement.Statement.TheVariants.{Text, Global, Define}
-use Rattle.asm_read.specs.Statements.{IsStatement, Says, code, defined, exported, opens}
+use Rattle.asm_line.specs.Statements.{IsStatement, Says, code, defined, exported, opens}
 use Rattle.asm_read.specs.declared.object.Object.{Object}
 use Rattle.asm_read.specs.declared.object.ObjectSymbol.{ObjectSymbol}
 use Rattle.asm_read.specs.declared.object.Section as section

@@ -1,5 +1,2 @@
 pub mod Assembly
 pub mod Checks
-pub mod Names
-pub mod Readings
-pub mod Statements

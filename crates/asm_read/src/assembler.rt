@@ -4,7 +4,7 @@ ghost use Rattle.rv_isa.specs.Lines.{text_of_lines};
 ghost use Rattle.asm_read.specs.Assembly.{AreOrdered, Assembles, IsAssembly, IsObjectOf, IsRefusal};
 ghost use Rattle.std.specs.List.{All};
 ghost use Rattle.rv_isa.specs.Statements.{statement_line};
-ghost use Rattle.asm_read.specs.Statements.{IsStatement};
+ghost use Rattle.asm_line.specs.Statements.{IsStatement};
 ghost use Rattle.asm_read.specs.Checks.{IsFirstRefused, IsRefused, statements_in};
 ghost use Rattle.rv_isa.specs.declared.statement.Statement.{Statement};
 

@@ -3,8 +3,8 @@ ghost use Rattle.std.specs.Prelude.{◌≡◌, ◌*◌, ◌++◌, ℕ, List, pos
 ghost use Rattle.std.specs.List.{All, list_any};
 ghost use Rattle.asm_read.specs.Assembly.{IsObjectOf, exports, is_some_and, symbol_at};
 ghost use Rattle.asm_read.specs.Checks.{has, in_line, statements_in};
-ghost use Rattle.asm_read.specs.Statements as statements;
-ghost use Rattle.asm_read.specs.Statements.{IsStatement, defined};
+ghost use Rattle.asm_line.specs.Statements as statements;
+ghost use Rattle.asm_line.specs.Statements.{IsStatement, defined};
 
 use crate::names::has_name;
 use crate::object::{Needs, Object, ObjectSymbol, Section, Symbols, Words};

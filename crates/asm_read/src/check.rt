@@ -4,8 +4,8 @@ ghost use Rattle.std.specs.List.{list_any};
 ghost use Rattle.asm_read.specs.Assembly.{defines, exports, is_some_and};
 ghost use Rattle.asm_read.specs.Checks as checks;
 ghost use Rattle.asm_read.specs.Checks.{has, refuses, refuses_at};
-ghost use Rattle.asm_read.specs.Statements as statements;
-ghost use Rattle.asm_read.specs.Statements.{defined, exported};
+ghost use Rattle.asm_line.specs.Statements as statements;
+ghost use Rattle.asm_line.specs.Statements.{defined, exported};
 
 use crate::names::{add_name, has_name};
 use rv_isa::Statement;

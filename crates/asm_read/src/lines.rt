@@ -2,8 +2,7 @@
 ghost use Rattle.std.specs.Prelude.{IfOk};
 ghost use Rattle.asm_read.specs.Checks.{AreLinesOf};
 
-use crate::bytes::cut_at;
-use crate::line::read_line;
+use asm_line::{cut_at, read_line};
 use rv_isa::Statement;
 use std::alloc::{AllocError, Global};
 

@@ -7,7 +7,7 @@ use Rattle.std.proofs.lemmas.List.Elements.{All-cons, All-nil, filter-append, re
 use Rattle.std.proofs.lemmas.Simd.{map-map}
 use Rattle.asm_print.specs.Items.{AreItems, IsItem, Item, items_text}
 use Rattle.asm_print.proofs.Written.{items_text-append}
-use Rattle.asm_read.specs.Statements.{IsRead}
+use Rattle.asm_line.specs.Statements.{IsRead}
 use Rattle.ir_syntax.specs.declared.function.Function.{Function}
 use Rattle.ir_syntax.specs.declared.module.Module.{Module}
 use Rattle.cg_built.specs.Built.{IsBuiltFunction, function_name}

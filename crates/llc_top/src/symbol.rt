@@ -6,7 +6,7 @@ ghost use Rattle.llc_top.specs.Outcome.{refusal_text};
 ghost use Rattle.llc_top.specs.Streams.{sink_change, TellsAll, CutOff};
 
 use crate::tell::{Untold, write_piece};
-use asm_read::is_bare;
+use asm_line::is_bare;
 use cg_io::Sink;
 use ir_syntax::Refusal;
 

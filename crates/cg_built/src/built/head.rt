@@ -7,7 +7,7 @@ ghost use Rattle.cg_built.specs.Unbuilt.{bits_of, is_built_head, is_default, is_
 
 use crate::linkage::{is_default, is_external};
 use crate::symbol::bytes_of;
-use asm_read::is_bare;
+use asm_line::is_bare;
 use ir_check::is_reserved;
 use ir_syntax::{Function, Param, TyText, TypeTree};
 

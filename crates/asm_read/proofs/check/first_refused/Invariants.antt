@@ -1,7 +1,7 @@
 use Rattle.std.proofs.Common.{◌≡◌, ◌<◌, ℕ, List, false, take}
 use Rattle.std.specs.List.{list_any}
 use Rattle.asm_read.specs.Checks.{has, refuses_at}
-use Rattle.asm_read.specs.Statements.{opens}
+use Rattle.asm_line.specs.Statements.{opens}
 use Rattle.asm_read.specs.Assembly.{defines, is_some_and}
 use Rattle.asm_read.proofs.check.first_refused.Given as goal
 

@@ -1,0 +1,9 @@
+pub mod BytesLemmas
+pub mod NumberLemmas
+pub mod SymbolLemmas
+pub mod LabelLemmas
+pub mod RegisterLemmas
+pub mod LineLemmas
+pub mod StatementLemmas
+pub mod CodeLemmas
+pub mod FeedLemmas

@@ -1,0 +1,35 @@
+//! Parts of a line.
+ghost use Rattle.std.specs.Prelude.{◌≡◌, ◌++◌, List, ◌∷◌, ℕ, MatchOption};
+ghost use Rattle.asm_line.specs.Names.{IsCut};
+
+/// What stands before and after the first `byte`, or `None` where there is none.
+pub fn cut_at(bytes: &[u8], byte: u8) -> Option<(&[u8], &[u8])>
+    ensures { MatchOption result
+        ((front back : List ℕ) → bytes.now ≡ front ++ byte ∷ back → ⊥)
+        (λ cut. IsCut byte bytes.now cut.0.now cut.1.now) }
+{
+    for at in 0..bytes.len() {
+        if bytes[at] == byte {
+            return Some((&bytes[..at], &bytes[at + 1..]));
+        }
+    }
+    None
+}
+
+/// What stands after the prefix.
+pub fn after<'a>(bytes: &'a [u8], prefix: &[u8]) -> Option<&'a [u8]>
+    ensures { MatchOption result
+        ((rest : List ℕ) → bytes.now ≡ prefix.now ++ rest → ⊥)
+        (λ rest. bytes.now ≡ prefix.now ++ rest.now) }
+{
+    bytes.strip_prefix(prefix)
+}
+
+/// What stands before the suffix.
+pub fn before<'a>(bytes: &'a [u8], suffix: &[u8]) -> Option<&'a [u8]>
+    ensures { MatchOption result
+        ((front : List ℕ) → bytes.now ≡ front ++ suffix.now → ⊥)
+        (λ front. bytes.now ≡ front.now ++ suffix.now) }
+{
+    bytes.strip_suffix(suffix)
+}
