@@ -5,9 +5,8 @@ use Rattle.ir_ident.specs.Places.{place_by}
 use Rattle.ir_syntax.specs.declared.block.Block.{Block}
 use Rattle.ir_ident.specs.declared.name.Name.{Name}
 use Rattle.ir_ident.specs.declared.name.NameUse.{NameUse}
-use Rattle.ir_syntax.specs.declared.term.Case.{Case}
 use Rattle.ir_syntax.specs.declared.term.Term.{Term}
-use Rattle.ir_syntax.specs.declared.term.Term.TheVariants.{ReturnVoid, Ret, Br, CondBr, Switch, Unreachable}
+use Rattle.ir_walk.specs.Parts.{Part, type_part, operand_part, callee_part, label_part, term_parts}
 
 -- the place of the first block that has a label
 abbrev pub label_place : List Block → Name → Option ℕ
@@ -21,17 +20,16 @@ maybe_place (Some place) = place ∷ []
 abbrev pub label_successors : (Name → Option ℕ) → NameUse → List ℕ
 label_successors known target = maybe_place (known target.name)
 
-abbrev pub case_successors : (Name → Option ℕ) → Case → List ℕ
-case_successors known c = label_successors known c.target
+-- the label that a part of a terminator is
+abbrev pub label_in : Part → List NameUse
+label_in (type_part ty) = []
+label_in (operand_part operand) = []
+label_in (callee_part callee) = []
+label_in (label_part label) = label ∷ []
 
 -- the places of the blocks that a terminator names
 abbrev pub term_successors : (Name → Option ℕ) → Term → List ℕ
-term_successors known (ReturnVoid line) = []
-term_successors known (Ret line ty value) = []
-term_successors known (Br line target) = label_successors known target
-term_successors known (CondBr line ty condition then_target else_target) = label_successors known then_target ++ label_successors known else_target
-term_successors known (Switch line ty value default cases) = label_successors known default ++ flat_map (case_successors known) cases
-term_successors known (Unreachable line) = []
+term_successors known t = flat_map (label_successors known) (flat_map label_in (term_parts t))
 
 abbrev pub block_successors : (Name → Option ℕ) → Option Block → List ℕ
 block_successors known None = []

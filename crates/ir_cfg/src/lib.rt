@@ -4,6 +4,7 @@
 
 mod reached;
 mod sizes;
+mod successors;
 
 pub use reached::{is_marked, reachable_marks};
 pub use sizes::{function_sizes, total_size};

@@ -1,13 +1,13 @@
 //! The blocks of a function that some path from its first block reaches (LangRef, "Functions").
-ghost use Rattle.std.specs.Prelude.{◌≡◌, ◌<◌, ℕ, length, true, ◌++◌, ◌∷◌, [], IfOk, OnOk, false, replicate, slice_get};
-ghost use Rattle.std.specs.List.{flat_map};
+ghost use Rattle.std.specs.Prelude.{◌≡◌, ◌<◌, ℕ, length, true, ◌∷◌, [], IfOk, OnOk, false, replicate};
 ghost use Rattle.ir_ident.specs.NameMaps.{value_of};
-ghost use Rattle.ir_cfg.specs.Reached.{block_successors, case_successors, has_place, reachable_marks, label_successors, label_place, reached_within, term_successors};
+ghost use Rattle.ir_cfg.specs.Reached.{has_place, reachable_marks, label_place, reached_within};
 ghost use Rattle.ir_cfg.specs.Searches.{Sees, mark_at};
 ghost use Rattle.ir_ident.specs.declared.name.Name.{Name};
 
-use ir_ident::{NameMap, NameUse};
-use ir_syntax::{Block, Case, Term};
+use crate::successors::successors_at;
+use ir_ident::NameMap;
+use ir_syntax::Block;
 use std::alloc::{AllocError, Global};
 
 /// Of each block in order, whether some path from the first one reaches it. What a path of any length reaches is marked.
@@ -81,74 +81,5 @@ fn see(marks: &mut Vec<bool>, todo: &mut Vec<usize>, place: usize) -> Result<(),
     }
     marks[place] = true;
     todo.push(place)?;
-    Ok(())
-}
-
-/// The places that the block at a place leads to.
-fn successors_at(
-    alloc: Global,
-    places: &NameMap<'_, usize>,
-    blocks: &[Block],
-    place: usize,
-) -> Result<Vec<usize>, AllocError>
-    ensures { IfOk result (λ successors. successors.items ≡ block_successors (value_of places.now) (slice_get blocks.now place)) }
-{
-    let mut successors = Vec::new(alloc);
-    let Some(block) = blocks.get(place) else {
-        return Ok(successors);
-    };
-    push_successors(&mut successors, places, &block.term)?;
-    Ok(successors)
-}
-
-/// Adds the places that a terminator leads to, in order.
-fn push_successors(
-    successors: &mut Vec<usize>,
-    places: &NameMap<'_, usize>,
-    term: &Term,
-) -> Result<(), AllocError>
-    ensures { OnOk result (successors.new.items ≡ successors.old.items ++ term_successors (value_of places.now) term.now) }
-{
-    match term {
-        Term::ReturnVoid { .. } | Term::Ret { .. } | Term::Unreachable { .. } => Ok(()),
-        Term::Br { target, .. } => push_successor(successors, places, target),
-        Term::CondBr {
-            then_target,
-            else_target,
-            ..
-        } => {
-            push_successor(successors, places, then_target)?;
-            push_successor(successors, places, else_target)
-        }
-        Term::Switch { default, cases, .. } => {
-            push_successor(successors, places, default)?;
-            push_case_successors(successors, places, cases.as_slice())
-        }
-    }
-}
-
-fn push_case_successors(
-    successors: &mut Vec<usize>,
-    places: &NameMap<'_, usize>,
-    cases: &[Case],
-) -> Result<(), AllocError>
-    ensures { OnOk result (successors.new.items ≡ successors.old.items ++ flat_map (case_successors (value_of places.now)) cases.now) }
-{
-    for case in cases {
-        push_successor(successors, places, &case.target)?;
-    }
-    Ok(())
-}
-
-fn push_successor(
-    successors: &mut Vec<usize>,
-    places: &NameMap<'_, usize>,
-    target: &NameUse,
-) -> Result<(), AllocError>
-    ensures { OnOk result (successors.new.items ≡ successors.old.items ++ label_successors (value_of places.now) target.now) }
-{
-    if let Some(place) = places.get(&target.name) {
-        successors.push(place)?;
-    }
     Ok(())
 }
