@@ -81,12 +81,12 @@ term_built f (Ret line ty value) word is passes =
 term_built f other word is passes = absurd (cc)
 
 -- what a body that passes has
-record Ending (f : Function) (blocks : Option (List Block)) : Type 0 where
+record HasOneBlock (f : Function) (blocks : Option (List Block)) : Type 0 where
   body : IsBuiltBody f.params blocks
   typed : IsTypedBody f.result blocks
 
 body_built : (f : Function) (first : Block) (more : List Block) → is_32_or_64 (bits_of f.result) ≡ true → f.result ≡ Some (int (bits_of f.result)) →
-    is_built_body f first more ≡ true → Ending f (Some (first ∷ more))
+    is_built_body f first more ≡ true → HasOneBlock f (Some (first ∷ more))
 body_built f first [] word is passes =
     let parts = and_parts (is_empty first.phis && is_empty first.instrs) (is_built_term f first.term) passes in
     let prefix = and_parts (is_empty first.phis) (is_empty first.instrs) parts.0 in

@@ -1,11 +1,11 @@
 -- The names of definitions: they stand without quotes, and are no label's and none of the runtime's.
 use Rattle.std.proofs.Common.{◌≡◌, ◌<◌, ◌++◌, ◌∷◌, [], ℕ, List, true, false, not, ◌&&◌, ◌||◌, All, sym, subst, codes, arith}
-use Rattle.std.specs.Prelude.{◌==◌, bytes_eq}
-use Rattle.std.specs.List.{list_all}
+use Rattle.std.specs.Prelude.{◌==◌, bytes_eq, nat_eq}
+use Rattle.std.specs.List.{list_all, starts_with}
 use Rattle.std.proofs.lemmas.Bool.{and_parts, both_ways, or_parts}
 use Rattle.std.proofs.lemmas.Bool.Decides.{nat_tests}
 use Rattle.std.proofs.lemmas.List.Elements.{All-cons, All-nil}
-use Rattle.ir_check.specs.Reserved.{begins_digit, begins_with, is_label_name, is_reserved}
+use Rattle.ir_check.specs.Reserved.{begins_digit, is_label_name, is_reserved}
 use Rattle.rv_isa.specs.Symbol.{IsLabel, IsSymbol, is_digit, is_number, is_symbol_byte}
 use Rattle.cg_built.specs.Built.{is_built_name}
 use Rattle.cg_built.proofs.BareNames.{bare_bytes, name_is_bare, name_not_reserved}
@@ -17,7 +17,7 @@ free_differs name other free taken same = both_ways (is_reserved other) (subst (
 -- nor does it begin as the labels of blocks do
 free_of_labels : (name : List ℕ) → is_reserved name ≡ false → is_label_name name ≡ false
 free_of_labels name free =
-    (or_parts (bytes_eq name (codes "_start") || begins_with (codes "__host_") name || begins_with (codes "llvm.") name) (is_label_name name) free).1
+    (or_parts (bytes_eq name (codes "_start") || starts_with nat_eq name (codes "__host_") || starts_with nat_eq name (codes "llvm.")) (is_label_name name) free).1
 
 number_begins : (digits rest : List ℕ) → is_number digits ≡ true → begins_digit (digits ++ rest) ≡ true
 number_begins [] rest number = absurd (cc)

@@ -3,18 +3,15 @@ use Rattle.std.specs.Prelude.{ℕ, Bool, false, ◌&&◌, ◌||◌, nat_eq, List
 use Rattle.std.specs.List.{starts_with}
 use Rattle.std.specs.Char.{is_ascii_digit}
 
-abbrev pub begins_with : List ℕ → List ℕ → Bool
-begins_with prefix name = starts_with nat_eq name prefix
-
 abbrev pub begins_digit : List ℕ → Bool
 begins_digit [] = false
 begins_digit (b ∷ bytes) = is_ascii_digit b
 
 -- the labels of the blocks in the assembly begin so: no function, variable or alias does, defined or declared
 abbrev pub is_label_name : List ℕ → Bool
-is_label_name name = begins_with (codes ".LBB") name && begins_digit (drop 4 name)
+is_label_name name = starts_with nat_eq name (codes ".LBB") && begins_digit (drop 4 name)
 
 -- the names of the start of a program, of the functions of its host and of intrinsics: nothing is defined by one
 abbrev pub is_reserved : List ℕ → Bool
 is_reserved name =
-    bytes_eq name (codes "_start") || begins_with (codes "__host_") name || begins_with (codes "llvm.") name || is_label_name name
+    bytes_eq name (codes "_start") || starts_with nat_eq name (codes "__host_") || starts_with nat_eq name (codes "llvm.") || is_label_name name

@@ -1,9 +1,10 @@
 //! Names that no item of a module may have.
-ghost use Rattle.std.specs.Prelude.{◌≡◌};
-ghost use Rattle.ir_check.specs.Reserved.{begins_digit, begins_with, is_label_name, is_reserved};
+ghost use Rattle.std.specs.Prelude.{◌≡◌, nat_eq};
+ghost use Rattle.std.specs.List.{starts_with};
+ghost use Rattle.ir_check.specs.Reserved.{begins_digit, is_label_name, is_reserved};
 
 fn begins_with(prefix: &[u8], name: &[u8]) -> bool
-    ensures { result ≡ begins_with prefix.now name.now }
+    ensures { result ≡ starts_with nat_eq name.now prefix.now }
 {
     name.starts_with(prefix)
 }
