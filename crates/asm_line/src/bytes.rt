@@ -5,7 +5,7 @@ ghost use Rattle.asm_line.specs.Names.{IsCut};
 /// What stands before and after the first `byte`, or `None` where there is none.
 pub fn cut_at(bytes: &[u8], byte: u8) -> Option<(&[u8], &[u8])>
     ensures { MatchOption result
-        ((front back : List ℕ) → bytes.now ≡ front ++ byte ∷ back → ⊥)
+        ((left right : List ℕ) → bytes.now ≡ left ++ byte ∷ right → ⊥)
         (λ cut. IsCut byte bytes.now cut.0.now cut.1.now) }
 {
     for at in 0..bytes.len() {
@@ -28,8 +28,8 @@ pub fn after<'a>(bytes: &'a [u8], prefix: &[u8]) -> Option<&'a [u8]>
 /// What stands before the suffix.
 pub fn before<'a>(bytes: &'a [u8], suffix: &[u8]) -> Option<&'a [u8]>
     ensures { MatchOption result
-        ((front : List ℕ) → bytes.now ≡ front ++ suffix.now → ⊥)
-        (λ front. bytes.now ≡ front.now ++ suffix.now) }
+        ((stem : List ℕ) → bytes.now ≡ stem ++ suffix.now → ⊥)
+        (λ stem. bytes.now ≡ stem.now ++ suffix.now) }
 {
     bytes.strip_suffix(suffix)
 }

@@ -68,7 +68,7 @@ fn read_octal(bytes: &[u8]) -> Option<(u8, &[u8])>
     }
 }
 
-/// The byte that a backslash and the front of the bytes spell, and what comes after it.
+/// The byte that a backslash and the first bytes spell, and what comes after it.
 fn read_escape(bytes: &[u8]) -> Option<(u8, &[u8])>
     ensures { MatchOption result
         ((b : ℕ) (rest : List ℕ) → b < 256 → 92 ∷ bytes.now ≡ symbol.escaped b ++ rest → ⊥)
@@ -81,7 +81,7 @@ fn read_escape(bytes: &[u8]) -> Option<(u8, &[u8])>
     }
 }
 
-/// The byte that the front of the bytes spells, and what comes after it.
+/// The byte that the first bytes spell, and what comes after it.
 fn read_byte(bytes: &[u8]) -> Option<(u8, &[u8])>
     ensures { MatchOption result
         ((b : ℕ) (rest : List ℕ) → b < 256 → bytes.now ≡ symbol.escaped b ++ rest → ⊥)

@@ -40,12 +40,12 @@ differs : (b c : ℕ) → is_symbol_byte c ≡ false → is_symbol_byte b ≡ tr
 differs b c other plain same = both_ways (is_symbol_byte c) other (subst (λ x. is_symbol_byte x ≡ true) same plain)
 
 -- symbol bytes are read up to what follows them
-front_leading : (bytes rest : List ℕ) → list_all is_symbol_byte bytes ≡ true → leading is_symbol_byte rest ≡ [] →
+all_leading : (bytes rest : List ℕ) → list_all is_symbol_byte bytes ≡ true → leading is_symbol_byte rest ≡ [] →
     leading is_symbol_byte (bytes ++ rest) ≡ bytes
-front_leading [] rest all ends = ends
-front_leading (b ∷ bytes) rest all ends =
+all_leading [] rest all ends = ends
+all_leading (b ∷ bytes) rest all ends =
     let parts = and_parts (is_symbol_byte b) (list_all is_symbol_byte bytes) all in
-    ap (λ t. cond t (b ∷ leading is_symbol_byte (bytes ++ rest)) []) parts.0 ∙ ap (λ prefix. b ∷ prefix) (front_leading bytes rest parts.1 ends)
+    ap (λ t. cond t (b ∷ leading is_symbol_byte (bytes ++ rest)) []) parts.0 ∙ ap (λ prefix. b ∷ prefix) (all_leading bytes rest parts.1 ends)
 
 bare_read : (name rest : List ℕ) → is_bare name ≡ true → leading is_symbol_byte rest ≡ [] → symbol_at (name ++ rest) ≡ name
 bare_read [] rest bare ends = absurd (cc)
@@ -54,7 +54,7 @@ bare_read (b ∷ bytes) rest bare ends =
     let prefix : List ℕ = leading is_symbol_byte (b ∷ (bytes ++ rest)) in
     ap (λ t. cond t (b ∷ quoted_prefix false (bytes ++ rest)) (cond (is_digit b) [] prefix)) (ne_eqb b 34 (λ e. differs b 34 refl first.symbol e))
     ∙ ap (λ t. cond t [] prefix) first.digit
-    ∙ front_leading (b ∷ bytes) rest first.all ends
+    ∙ all_leading (b ∷ bytes) rest first.all ends
 
 bare_no_tab : (name rest word : List ℕ) → is_bare name ≡ true → starts_with nat_eq (name ++ rest) (9 ∷ word) ≡ false
 bare_no_tab [] rest word bare = absurd (cc)

@@ -18,12 +18,12 @@ read_at (line ∷ lines) [] k h l = absurd h
 read_at (line ∷ lines) (r ∷ readings) zero h l = h.0
 read_at (line ∷ lines) (r ∷ readings) (suc k) h l = read_at lines readings k h.1 (omega arith)
 
-read_front : (lines : List (List ℕ)) (readings : List (Option Statement)) (k : ℕ) → AreRead lines readings → AreRead (take k lines) (take k readings)
-read_front lines readings zero h = tt
-read_front [] [] (suc k) h = tt
-read_front [] (r ∷ readings) (suc k) h = absurd h
-read_front (line ∷ lines) [] (suc k) h = absurd h
-read_front (line ∷ lines) (r ∷ readings) (suc k) h = (h.0, read_front lines readings k h.1)
+read_first : (lines : List (List ℕ)) (readings : List (Option Statement)) (k : ℕ) → AreRead lines readings → AreRead (take k lines) (take k readings)
+read_first lines readings zero h = tt
+read_first [] [] (suc k) h = tt
+read_first [] (r ∷ readings) (suc k) h = absurd h
+read_first (line ∷ lines) [] (suc k) h = absurd h
+read_first (line ∷ lines) (r ∷ readings) (suc k) h = (h.0, read_first lines readings k h.1)
 
 pub read_length : (lines : List (List ℕ)) (readings : List (Option Statement)) → AreRead lines readings → length lines ≡ length readings
 read_length [] [] h = refl
@@ -92,8 +92,8 @@ module _ (lines before : List (List ℕ)) (all some : List (Option Statement)) (
 
 pub refused_is_bad : (lines : List (List ℕ)) (readings : List (Option Statement)) (k : ℕ) → AreRead lines readings → k < length lines → refuses_at readings k ≡ true → IsBad lines (take k lines) (slice_index_or lines k [])
 refused_is_bad lines readings k h l e =
-    bad_when lines (take k lines) readings (take k readings) h (read_front lines readings k h) (slice_index_or lines k []) (slice_index_or readings k None) (read_at lines readings k h l) e
+    bad_when lines (take k lines) readings (take k readings) h (read_first lines readings k h) (slice_index_or lines k []) (slice_index_or readings k None) (read_at lines readings k h l) e
 
 pub passed_is_not_bad : (lines : List (List ℕ)) (readings : List (Option Statement)) (k : ℕ) → AreRead lines readings → k < length lines → refuses_at readings k ≡ false → IsBad lines (take k lines) (slice_index_or lines k []) → ⊥
 passed_is_not_bad lines readings k h l e =
-    not_bad_when lines (take k lines) readings (take k readings) h (read_front lines readings k h) (slice_index_or lines k []) (slice_index_or readings k None) (read_at lines readings k h l) e
+    not_bad_when lines (take k lines) readings (take k readings) h (read_first lines readings k h) (slice_index_or lines k []) (slice_index_or readings k None) (read_at lines readings k h l) e

@@ -66,8 +66,8 @@ GivesAll-told told None bytes all = absurd all.given
 GivesAll-told told (Some left) bytes all = sym (all.given ∙ ap (λ l. bytes ++ l) all.ended ∙ append-nil bytes)
 
 -- bytes and then all others are all
-pub GivesAll-after : (a b c : Option (List ℕ)) (front rest : List ℕ) → Consumes a b front → GivesAll b c rest → GivesAll a c (front ++ rest)
-GivesAll-after a b c front rest first all = record { given = Consumes-trans a b c _ _ first all.given; ended = all.ended }
+pub GivesAll-after : (a b c : Option (List ℕ)) (bytes rest : List ℕ) → Consumes a b bytes → GivesAll b c rest → GivesAll a c (bytes ++ rest)
+GivesAll-after a b c bytes rest first all = record { given = Consumes-trans a b c _ _ first all.given; ended = all.ended }
 
 -- nothing is at most any number of bytes
 pub TakesAtMost-none : (n : ℕ) (a : Option (List ℕ)) → TakesAtMost n a a

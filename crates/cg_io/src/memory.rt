@@ -5,7 +5,7 @@ ghost use Rattle.cg_io.specs.Faults.{HasCause, next_count};
 ghost use Rattle.cg_io.specs.Memory.{room_left};
 
 use crate::errors::Failed;
-use crate::slices::copy_front;
+use crate::slices::copy_prefix;
 use crate::streams::{Sink, Source};
 use std::alloc::{AllocError, Global};
 use std::marker::Model;
@@ -102,7 +102,7 @@ impl Source for MemSource {
             self.faults = self.faults.saturating_add(1);
             return Err(Failed);
         }
-        let count = copy_front(&self.bytes[self.given..], buf, self.piece);
+        let count = copy_prefix(&self.bytes[self.given..], buf, self.piece);
         self.given += count;
         Ok(count)
     }

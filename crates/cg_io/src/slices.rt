@@ -1,7 +1,7 @@
 ghost use Rattle.std.specs.Prelude.{◌≡◌, ◌++◌, length, min, take, drop};
 
-/// Copies the front of `from` over the front of `to`, at most `most` bytes, and answers how many.
-pub(crate) fn copy_front(from: &[u8], to: &mut [u8], most: usize) -> usize
+/// Copies a prefix of `from` over the start of `to`, at most `most` bytes, and answers how many.
+pub(crate) fn copy_prefix(from: &[u8], to: &mut [u8], most: usize) -> usize
     ensures count { result ≡ min most (min (length to.old) (length from.now)) }
     ensures copied { to.new ≡ take result from.now ++ drop result to.old }
     ensures prefix { take result to.new ≡ take result from.now }

@@ -14,7 +14,7 @@ pub trait Source {
     // How many reads failed. It never falls, and stands still at 2^64 - 1.
     ghost faults: { Self → ℕ };
 
-    /// Reads into the front of `buf`, and answers how many bytes came. None into a buffer that isn't
+    /// Reads into a prefix of `buf`, and answers how many bytes came. None into a buffer that isn't
     /// empty means the end of the input. A read that failed took nothing.
     fn read(&mut self, buf: &mut [u8]) -> Result<usize, Failed>
         ensures bound { ReadsAtMost result buf.new }
@@ -30,7 +30,7 @@ pub trait Sink {
     // How many writes failed. It never falls, and stands still at 2^64 - 1.
     ghost faults: { Self → ℕ };
 
-    /// Writes the front of `piece`, and answers how many bytes it took: at least one of a piece that
+    /// Writes a prefix of `piece`, and answers how many bytes it took: at least one of a piece that
     /// isn't empty. A write that failed took nothing.
     fn write(&mut self, piece: &[u8]) -> Result<usize, Failed>
         ensures bound { WritesAtMost result piece.now }

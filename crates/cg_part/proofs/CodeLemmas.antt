@@ -17,7 +17,7 @@ pub copies_more : (rd first place : ℕ) (old code : List Inst) (copy : Inst) �
     code ≡ old ++ copies rd first (place - first) → copy ≡ mv rd (10 + place) →
     code ++ copy ∷ [] ≡ old ++ copies rd first (place + 1 - first)
 copies_more rd first place old code copy before so_far is =
-    ap (λ front. front ++ copy ∷ []) so_far
+    ap (λ code. code ++ copy ∷ []) so_far
     ∙ append_assoc old (copies rd first (place - first)) (copy ∷ [])
     ∙ ap (λ last. old ++ (copies rd first (place - first) ++ last ∷ [])) is
     ∙ ap (λ all. old ++ all) (sym (one_more_copy rd first place before))

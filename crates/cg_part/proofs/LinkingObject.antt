@@ -29,10 +29,10 @@ pub record HasSymbol (object : Object) (name : List ℕ) (code : List Inst) : Ty
   pub name_is : symbol.name ≡ name
   pub global : symbol.global ≡ true
   pub text : symbol.section ≡ Text
-  pub front : List Line
-  pub back : List Line
-  pub words : object.words ≡ front ++ (map (λ i. Plain i) code ++ back)
-  pub offset : symbol.offset ≡ pos (4 * length front)
+  pub prefix : List Line
+  pub suffix : List Line
+  pub words : object.words ≡ prefix ++ (map (λ i. Plain i) code ++ suffix)
+  pub offset : symbol.offset ≡ pos (4 * length prefix)
 
 -- the words of code that waits for no address
 plain_words : (address : List ℕ → ℕ) (code : List Inst) → map (line_word address) (map (λ i. Plain i) code) ≡ map encoded code
@@ -45,8 +45,8 @@ pub least_instructions : (object : Object) (name : List ℕ) (code : List Inst) 
 least_instructions object name code has =
     let lines : List Line = map (λ i. Plain i) code in
     let count = length-map code (λ i. Plain i) in
-    let whole = ap length has.words ∙ length-append has.front (lines ++ has.back) in
-    let inner = length-append lines has.back in
+    let whole = ap length has.words ∙ length-append has.prefix (lines ++ has.suffix) in
+    let inner = length-append lines has.suffix in
     omega arith
 
 -- where the code of `main` lies in the image, and that the runtime's start calls it
@@ -64,11 +64,11 @@ main_called object code has distinct differ small formed =
     let objects : List Object = runtime ∷ object ∷ [] in
     let image : List ℕ = (linked_image objects).bytes in
     let main : ObjectSymbol = has.symbol in
-    let before : ℕ = length has.front in
+    let before : ℕ = length has.prefix in
     let lines : List Line = map (λ i. Plain i) code in
     let size = image_size-instructions objects in
     let count = length-map code (λ i. Plain i) in
-    let whole = ap length has.words ∙ length-append has.front (lines ++ has.back) in
+    let whole = ap length has.words ∙ length-append has.prefix (lines ++ has.suffix) in
     let place : symbol_address (section_begin objects (runtime ∷ []) object main.section) main ≡ 0x10000 + 4 * (12 + before) =
     symbol_lies objects (runtime ∷ []) [] object main before has.text refl small has.offset (omega arith) in
     let named : name_address objects [] runtime (codes "main") ≡ 0x10000 + 4 * (12 + before) =
@@ -82,7 +82,7 @@ main_called object code has distinct differ small formed =
     ∙ ap (λ a. bytes_of (map encoded (runtime_code a))) named in
     let main_is : take (4 * length code) (drop (4 * (12 + before)) image) ≡ bytes_of (map encoded code) =
     ap (λ n. take (4 * n) (drop (4 * (12 + before)) image)) (sym count)
-    ∙ lines_lie objects (runtime ∷ []) [] object has.front lines has.back refl has.words
+    ∙ lines_lie objects (runtime ∷ []) [] object has.prefix lines has.suffix refl has.words
     ∙ ap bytes_of (plain_words (name_address objects (runtime ∷ []) object) code) in
     record {
       address = 0x10000 + 4 * (12 + before);

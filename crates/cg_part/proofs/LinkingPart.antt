@@ -24,38 +24,38 @@ use Rattle.cg_part.proofs.Objects.{part_code, part_object, part_symbols}
 abbrev symbol_after : ℕ → Function → ObjectSymbol
 symbol_after before f = record { name = function_name f; global = true; section = Text; offset = pos (4 * before) }
 
-symbol_among : (before : ℕ) (front back : List Function) (f : Function) →
-    Contains (part_symbols before (front ++ f ∷ back)) (symbol_after (before + length (part_code front)) f)
-symbol_among before [] back f =
+symbol_among : (before : ℕ) (prefix suffix : List Function) (f : Function) →
+    Contains (part_symbols before (prefix ++ f ∷ suffix)) (symbol_after (before + length (part_code prefix)) f)
+symbol_among before [] suffix f =
     let here : before ≡ before + length {A = Inst} [] = omega arith in
     (0, omega arith, ap (λ n. symbol_after n f) here)
-symbol_among before (g ∷ front) back f =
+symbol_among before (g ∷ prefix) suffix f =
     let first : ObjectSymbol = symbol_after before g in
     let more : ℕ = before + length (function_code g) in
-    let whole = length-append (function_code g) (part_code front) in
-    let place : more + length (part_code front) ≡ before + length (part_code (g ∷ front)) = omega arith in
-    subst (λ n. Contains (part_symbols before ((g ∷ front) ++ f ∷ back)) (symbol_after n f)) place
-    (Contains-append_right (first ∷ []) (part_symbols more (front ++ f ∷ back)) (symbol_after (more + length (part_code front)) f) (symbol_among more front back f))
+    let whole = length-append (function_code g) (part_code prefix) in
+    let place : more + length (part_code prefix) ≡ before + length (part_code (g ∷ prefix)) = omega arith in
+    subst (λ n. Contains (part_symbols before ((g ∷ prefix) ++ f ∷ suffix)) (symbol_after n f)) place
+    (Contains-append_right (first ∷ []) (part_symbols more (prefix ++ f ∷ suffix)) (symbol_after (more + length (part_code prefix)) f) (symbol_among more prefix suffix f))
 
 pub part_has : (m : Module) (f : Function) → Contains (defined_functions m) f → HasSymbol (part_object m) (function_name f) (function_code f)
 part_has m f among =
     let place : Around (defined_functions m) f = around (defined_functions m) f among in
-    let front : List Inst = part_code place.front in
-    let back : List Inst = part_code place.back in
+    let prefix : List Inst = part_code place.prefix in
+    let suffix : List Inst = part_code place.suffix in
     let lines : List Inst → List Line = map (λ i. Plain i) in
-    let count = length-map front (λ i. Plain i) in
+    let count = length-map prefix (λ i. Plain i) in
     record {
-      symbol = symbol_after (0 + length front) f;
-      among = subst (λ functions. Contains (part_symbols 0 functions) (symbol_after (0 + length front) f)) (sym place.is) (symbol_among 0 place.front place.back f);
+      symbol = symbol_after (0 + length prefix) f;
+      among = subst (λ functions. Contains (part_symbols 0 functions) (symbol_after (0 + length prefix) f)) (sym place.is) (symbol_among 0 place.prefix place.suffix f);
       name_is = refl;
       global = refl;
       text = refl;
-      front = lines front;
-      back = lines back;
+      prefix = lines prefix;
+      suffix = lines suffix;
       words =
-          ap (λ functions. lines (part_code functions)) place.is ∙ ap lines (code_around place.front place.back f)
-          ∙ map-append (λ i. Plain i) front (function_code f ++ back)
-          ∙ ap (λ more. lines front ++ more) (map-append (λ i. Plain i) (function_code f) back);
+          ap (λ functions. lines (part_code functions)) place.is ∙ ap lines (code_around place.prefix place.suffix f)
+          ∙ map-append (λ i. Plain i) prefix (function_code f ++ suffix)
+          ∙ ap (λ more. lines prefix ++ more) (map-append (λ i. Plain i) (function_code f) suffix);
       offset = ap (λ n. pos (4 * n)) (omega arith);
     }
 

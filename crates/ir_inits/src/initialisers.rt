@@ -4,7 +4,7 @@ ghost use Rattle.ir_inits.specs.Initialisers.{array_inits, bracketed_inits, char
 ghost use Rattle.ir_rules.specs.Reading.{Gives};
 ghost use Rattle.ir_rules.specs.Rules.{commas};
 
-use ir_lex::{front_of, rest_of};
+use ir_lex::{prefix_of, rest_of};
 use ir_rules::{End, bad, word};
 use ir_syntax::{Bytes, Init, Operand, TypedInit, TypedInits};
 use ir_types::{begins_type, read_type, unescaped};
@@ -16,7 +16,7 @@ use std::alloc::{AllocError, Global};
 fn characters_of(alloc: Global, text: &[u8]) -> Result<Bytes, AllocError>
     ensures { IfOk result (λ bytes. bytes ≡ characters_of text.now) }
 {
-    let quoted = front_of(rest_of(text, 2), text.len().saturating_sub(3));
+    let quoted = prefix_of(rest_of(text, 2), text.len().saturating_sub(3));
     Ok(Bytes::from_vec(unescaped(alloc, quoted)?))
 }
 

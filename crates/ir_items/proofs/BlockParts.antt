@@ -37,7 +37,7 @@ module _ {A B : Type 0} (a : Rule A) where
     second_bad ts p n e f =
         ap (λ o. o >>= (λ (p : A × List Lexeme). second p)) e ∙ ap (λ o. o >>= (λ (q : B × List Lexeme). Ok ((p.0, q.0), q.1))) f
 
--- the front of a definition begins with its word
+-- the header of a definition begins with its word
 pub opening_begins : (ts : List Lexeme) (p : OpeningParts × List Lexeme) → openings.read ts ≡ Ok p → begins (class.Define ∷ []) ts ≡ true
 opening_begins ts p e =
     read_starts {S = Unit {0}} openings.firsts openings.flast (λ s. openings) (λ s x. s) (λ s. openings_law) (λ s. refl) (λ s c h. h) (λ s c h. h) refl tt ts p e
@@ -75,7 +75,7 @@ pub module_bad : (ts : List Lexeme) (n : ℕ) → (each entities).read ts ≡ Er
 unfolding module_forms
 module_bad ts n e = ap (λ o. o >>= ended) (made_bad (each entities) (λ (found : List (Option Entity)). filter_map (λ e. e) found) ts n e)
 
--- behind items and the front of a definition a first block has begun
+-- behind items and the header of a definition a first block has begun
 list_begun : (ts : List Lexeme) → Begins (blocks true) ts → Begins block_lists ts
 list_begun ts w =
     made_begun (seq (blocks true) (each (blocks false))) (λ (z : Block × List Block). z.0 ∷ z.1) ts
@@ -87,13 +87,13 @@ closed_begun ts w =
     made_begun (seq block_lists (word class.CloseCurly)) (λ (z : List Block × Unit {0}). z.0) ts
     (first_begun block_lists (word class.CloseCurly) (word_law class.CloseCurly refl refl) ts (list_begun ts w))
 
-pub module_begun : (items front block : List Lexeme) (found : List (Option Entity)) (z : OpeningParts) → (each entities).text items found → openings.text front z
-    → Begins (blocks true) block → Begins modules (items ++ (front ++ block))
+pub module_begun : (items header block : List Lexeme) (found : List (Option Entity)) (z : OpeningParts) → (each entities).text items found → openings.text header z
+    → Begins (blocks true) block → Begins modules (items ++ (header ++ block))
 unfolding module_forms entity_forms definition_forms
-module_begun items front block found z t o w =
-    made_begun (each entities) (λ (found : List (Option Entity)). filter_map (λ e. e) found) (items ++ (front ++ block))
-    (item_begun entities items (front ++ block) found t (of_definition
-    (made_begun (seq openings closed_blocks) definition_of (front ++ block) (second_begun openings closed_blocks front block z o (closed_begun block w)))))
+module_begun items header block found z t o w =
+    made_begun (each entities) (λ (found : List (Option Entity)). filter_map (λ e. e) found) (items ++ (header ++ block))
+    (item_begun entities items (header ++ block) found t (of_definition
+    (made_begun (seq openings closed_blocks) definition_of (header ++ block) (second_begun openings closed_blocks header block z o (closed_begun block w)))))
   where
-    of_definition : Begins definitions (front ++ block) → Begins entities (front ++ block)
+    of_definition : Begins definitions (header ++ block) → Begins entities (header ++ block)
     of_definition w = (w.0, w.1, inr (inr (inr (inl w.2))))

@@ -40,7 +40,7 @@ before_place all before bad e = ap (λ n. take n all) (place all before bad e) �
 from_place : (all before bad : List Lexeme) → all ≡ before ++ bad → drop (length all - length bad) all ≡ bad
 from_place all before bad e = ap (λ n. drop n all) (place all before bad e) ∙ ap (drop (length before)) e ∙ drop-append_seam before bad
 
--- how the front of a definition and a first block behind it stop
+-- how the header of a definition and a first block behind it stop
 record Stop (rest : List Lexeme) : Type 0 where
   behind : OpeningParts × List Lexeme
   opened : openings.read rest ≡ Ok behind
@@ -68,7 +68,7 @@ module _ (all rest : List Lexeme) (n : ℕ) (walk : after_items entities n all �
         go : (us : List Lexeme) × (xs : List (Option Entity)) × (all ≡ us ++ rest) × (each entities).text us xs → IsInFirstBlock (take (length all - left) all)
         go w = subst IsInFirstBlock (sym (ap (λ n. take (length all - n) all) same ∙ before_place all before b.1 parts)) (record {
           items = w.0;
-          front = o.0;
+          header = o.0;
           block = b.0;
           parts = refl;
           whole = (w.1, w.3);
@@ -116,39 +116,39 @@ module _ (all rest : List Lexeme) (n : ℕ) (walk : after_items entities n all �
     abbrev behind : List Lexeme
     behind = i.block ++ b ∷ bad
 
-    opened : openings.read (i.front ++ behind) ≡ Ok (i.opened.0, behind)
-    opened = openings_law.complete i.front behind i.opened.0 i.opened.1 (none (not (number class.End == number (first behind))))
+    opened : openings.read (i.header ++ behind) ≡ Ok (i.opened.0, behind)
+    opened = openings_law.complete i.header behind i.opened.0 i.opened.1 (none (not (number class.End == number (first behind))))
       where
         none : (b : Bool) → (b && false) ≡ false
         none true = refl
         none false = refl
 
     not_begun : Begins (blocks true) (i.block ++ b ∷ []) → ⊥
-    not_begun w = never (subst (Begins modules) apart (module_begun i.items i.front (i.block ++ b ∷ []) i.whole.0 i.opened.0 i.whole.1 i.opened.1 w))
+    not_begun w = never (subst (Begins modules) apart (module_begun i.items i.header (i.block ++ b ∷ []) i.whole.0 i.opened.0 i.whole.1 i.opened.1 w))
       where
-        apart : i.items ++ (i.front ++ (i.block ++ b ∷ [])) ≡ before ++ b ∷ []
+        apart : i.items ++ (i.header ++ (i.block ++ b ∷ [])) ≡ before ++ b ∷ []
         apart =
-            ap (λ l. i.items ++ l) (sym (append_assoc i.front i.block (b ∷ [])))
-            ∙ sym (append_assoc i.items (i.front ++ i.block) (b ∷ []))
+            ap (λ l. i.items ++ l) (sym (append_assoc i.header i.block (b ∷ [])))
+            ∙ sym (append_assoc i.items (i.header ++ i.block) (b ∷ []))
             ∙ ap (λ l. l ++ b ∷ []) (sym i.parts)
 
     bad_block : (m : ℕ) × ((blocks true).read behind ≡ Err m)
     bad_block = unended_stops (blocks true) (blocks_law true) i.block b bad i.begun i.unended not_begun
 
-    parted : all ≡ i.items ++ (i.front ++ behind)
+    parted : all ≡ i.items ++ (i.header ++ behind)
     parted =
         is
         ∙ ap (λ l. l ++ b ∷ bad) i.parts
-        ∙ append_assoc i.items (i.front ++ i.block) (b ∷ bad)
-        ∙ ap (λ l. i.items ++ l) (append_assoc i.front i.block (b ∷ bad))
+        ∙ append_assoc i.items (i.header ++ i.block) (b ∷ bad)
+        ∙ ap (λ l. i.items ++ l) (append_assoc i.header i.block (b ∷ bad))
 
-    firsts : begins entity_firsts (i.front ++ behind) ≡ true
-    firsts = within_is (class.Define ∷ []) entity_firsts (first (i.front ++ behind)) refl (opening_begins (i.front ++ behind) (i.opened.0, behind) opened)
+    firsts : begins entity_firsts (i.header ++ behind) ≡ true
+    firsts = within_is (class.Define ∷ []) entity_firsts (first (i.header ++ behind)) refl (opening_begins (i.header ++ behind) (i.opened.0, behind) opened)
 
-    found : rest ≡ i.front ++ behind
+    found : rest ≡ i.header ++ behind
     found =
-        walk_same entities entities_law refl refl n i.whole.0 bad_block.0 all i.items (i.front ++ behind) rest walk ends parted i.whole.1 firsts
-        (entity_bad (i.front ++ behind) (i.opened.0, behind) bad_block.0 opened bad_block.1)
+        walk_same entities entities_law refl refl n i.whole.0 bad_block.0 all i.items (i.header ++ behind) rest walk ends parted i.whole.1 firsts
+        (entity_bad (i.header ++ behind) (i.opened.0, behind) bad_block.0 opened bad_block.1)
 
     begins_there : begins entity_firsts rest ≡ true
     begins_there = ap (begins entity_firsts) found ∙ firsts

@@ -7,7 +7,7 @@ use Rattle.ir_rules.specs.Laws.{Lawful, Splits, head}
 use Rattle.ir_rules.specs.Reading.{Begins}
 use Rattle.ir_rules.specs.Rules.{Answer, Rule}
 
--- two fronts of the same tokens: the second one is longer, or the first one goes on from it
+-- two prefixes of the same tokens: the second one is longer, or the first one goes on from it
 abbrev Longer : List Lexeme → List Lexeme → List Lexeme → List Lexeme → Type 0
 Longer us bs ws rest = (c : Lexeme) × (more : List Lexeme) × (ws ≡ us ++ c ∷ more) × (bs ≡ c ∷ more ++ rest)
 

@@ -11,15 +11,15 @@ use Rattle.ir_items.specs.Entities.{entities, modules}
 use Rattle.ir_functions.specs.Functions.{OpeningParts, openings}
 use Rattle.ir_entities.specs.declared.entity.Entity.{Entity}
 
--- The tokens end inside a first block: behind whole items and the front of a definition up to its `{`
+-- The tokens end inside a first block: behind whole items and the header of a definition up to its `{`
 -- they go on as a first block begins, and are no whole one yet.
 pub record IsInFirstBlock (ts : List Lexeme) : Type 0 where
   pub items : List Lexeme
-  pub front : List Lexeme
+  pub header : List Lexeme
   pub block : List Lexeme
-  pub parts : ts ≡ items ++ (front ++ block)
+  pub parts : ts ≡ items ++ (header ++ block)
   pub whole : (found : List (Option Entity)) × (each entities).text items found
-  pub opened : (z : OpeningParts) × openings.text front z
+  pub opened : (z : OpeningParts) × openings.text header z
   pub begun : Begins (blocks true) block
   pub unended : (b : Block) → (blocks true).text block b → ⊥
 
@@ -27,12 +27,12 @@ abbrev pub is_bad : {A : Type 0} → Answer A → Bool
 is_bad (Ok p) = false
 is_bad (Err left) = true
 
--- whether behind the front of a definition, if that is read, no first block is
+-- whether behind the header of a definition, if that is read, no first block is
 abbrev pub stops_behind : Answer OpeningParts → Bool
 stops_behind (Ok p) = is_bad ((blocks true).read p.1)
 stops_behind (Err left) = false
 
--- the same, of the tokens from that front on
+-- the same, of the tokens from that header on
 abbrev pub stops_in_block : List Lexeme → Bool
 stops_in_block ts = stops_behind (openings.read ts)
 

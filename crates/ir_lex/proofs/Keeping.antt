@@ -1,8 +1,8 @@
 -- What the split of a text keeps: the tokens before a place, and its line.
 use Rattle.std.proofs.Common.{◌≡◌, ℕ, ◌+◌, ◌<◌, ◌≤◌, List, [], ◌∷◌, ◌++◌, ◌==◌, ◌||◌, cond, get_or, ap, arith, drop, length, subst, sym, take, refl, ◌∙◌}
 use Rattle.std.proofs.lemmas.List.{get_or-drop, length-drop}
-use Rattle.ir_lex.specs.Splitting.{begun, front_of, gap_len, line_feeds, line_of, piece_of, token_at, tokens_from, tokens_of}
-use Rattle.ir_lex.specs.declared.front.Front.{Front}
+use Rattle.ir_lex.specs.Splitting.{begun, longest_match, gap_len, line_feeds, line_of, piece_of, token_at, tokens_from, tokens_of}
+use Rattle.ir_lex.specs.declared.longest_match.LongestMatch.{LongestMatch}
 use Rattle.ir_lex.specs.declared.kind.Token.{Token}
 use Rattle.ir_lex.specs.declared.piece.Piece.TheVariants.{Gap, Begins}
 use Rattle.ir_lex.specs.Characters.{run}
@@ -45,21 +45,21 @@ module _ (text : List ℕ) (at line feeds n : ℕ) (tokens : List Token) (rest :
     left = all_gap text tokens at n inside some long (piece ∙ ap piece_of is) ∙ kept.left;
   }
 
-  pub kept_begins : (front : Front) → front.len ≡ n → Begins front ≡ piece_of rest
-      → Kept text (at + n) (line + feeds) (tokens ++ record { kind = front.kind; start = at; len = front.len; line = line } ∷ [])
+  pub kept_begins : (found : LongestMatch) → found.len ≡ n → Begins found ≡ piece_of rest
+      → Kept text (at + n) (line + feeds) (tokens ++ record { kind = found.kind; start = at; len = found.len; line = line } ∷ [])
   unfolding token_at
-  kept_begins front len piece =
-      let token : Token = record { kind = front.kind; start = at; len = front.len; line = line } in
-      let has : 0 < front.len = omega (arith, len, some) in
-      let ends : at + front.len ≡ at + n = ap (λ k. at + k) len in
+  kept_begins found len piece =
+      let token : Token = record { kind = found.kind; start = at; len = found.len; line = line } in
+      let has : 0 < found.len = omega (arith, len, some) in
+      let ends : at + found.len ≡ at + n = ap (λ k. at + k) len in
       record {
         within = within;
         here = line_kept text at n line feeds rest is kept.here counted;
         low = low;
         left = ap (λ k. before (tokens ++ token ∷ []) (tokens_from text 0 k (drop k text))) (sym ends)
-            ∙ ap (λ l. before (tokens ++ record { kind = front.kind; start = at; len = front.len; line = l } ∷ [])
-            (tokens_from text 0 (at + front.len) (drop (at + front.len) text))) kept.here
-            ∙ all_begins text tokens at front inside has (omega (arith, len, long)) (piece ∙ ap piece_of is)
+            ∙ ap (λ l. before (tokens ++ record { kind = found.kind; start = at; len = found.len; line = l } ∷ [])
+            (tokens_from text 0 (at + found.len) (drop (at + found.len) text))) kept.here
+            ∙ all_begins text tokens at found inside has (omega (arith, len, long)) (piece ∙ ap piece_of is)
             ∙ kept.left;
       }
 
@@ -67,7 +67,7 @@ blank_piece : (bytes : List ℕ) → get_or bytes 0 0 ≡ 32 → Gap 1 ≡ piece
 unfolding piece_of gap_len
 blank_piece bytes is =
     let step : gap_len bytes ≡ 1 = ap (λ b. cond (b == 32 || b == 9 || b == 13 || b == 10) 1 (cond (b == 59) (run Comment bytes) 0)) is in
-    sym (ap (λ n. cond (n == 0) (begun (front_of bytes) bytes) (Gap n)) step)
+    sym (ap (λ n. cond (n == 0) (begun (longest_match bytes) bytes) (Gap n)) step)
 
 pub kept_blank : (text : List ℕ) (at line : ℕ) (tokens : List Token) → Kept text at line tokens → at < length text → get_or text at 0 ≡ 32 → Kept text (at + 1) line tokens
 kept_blank text at line tokens kept inside is =

@@ -1,5 +1,4 @@
 pub mod Decimals
-pub mod Fronts
 pub mod Gaps
 pub mod Keeping
 pub mod Longest
@@ -18,3 +17,4 @@ pub mod SpelledKinds
 pub mod Starts
 pub mod Unescaping
 pub mod Within
+pub mod WordMatches

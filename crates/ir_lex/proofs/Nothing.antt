@@ -2,7 +2,7 @@
 use Rattle.std.proofs.Common.{◌≡◌, ℕ, ◌<◌, inl, inr, List, [], ◌∷◌, ◌++◌, ap, arith, length, length-append}
 use Rattle.ir_lex.specs.BadPlaces.{BeginsNothing}
 use Rattle.ir_lex.specs.Spelling.{Spells}
-use Rattle.ir_lex.specs.Splitting.{front_of}
+use Rattle.ir_lex.specs.Splitting.{longest_match}
 use Rattle.ir_lex.specs.declared.kind.Kind.{Kind}
 use Rattle.ir_lex.specs.declared.kind.Kind.TheVariants.{Label, Int, Real, Word, Str, CStr, Global, Local, Meta, Attr, Equal, Comma, Star, OpenRound, CloseRound, OpenSquare, CloseSquare, OpenCurly, CloseCurly, OpenPacked, ClosePacked, Less, Greater, Bar, Bang, Ellipsis}
 use Rattle.ir_lex.proofs.Reaches.{string_some}
@@ -40,6 +40,6 @@ some_spelled Bar text is = omega (arith, ap length is)
 some_spelled Bang text is = omega (arith, ap length is)
 some_spelled Ellipsis text is = omega (arith, ap length is)
 
-pub begins_nothing : (bytes : List ℕ) → (front_of bytes).len ≡ 0 → BeginsNothing bytes
+pub begins_nothing : (bytes : List ℕ) → (longest_match bytes).len ≡ 0 → BeginsNothing bytes
 begins_nothing bytes none = λ kind prefix rest split spells.
-    absurd (omega (arith, none, some_spelled kind prefix spells, reaches kind prefix rest spells, ap (λ xs. (front_of xs).len) split))
+    absurd (omega (arith, none, some_spelled kind prefix spells, reaches kind prefix rest spells, ap (λ xs. (longest_match xs).len) split))

@@ -1,4 +1,4 @@
--- A length is no less than a text of its kind at the front.
+-- A length is no less than a text of its kind at the start.
 use Rattle.std.proofs.Common.{◌≡◌, ℕ, zero, suc, ◌+◌, ◌<◌, ◌≤◌, inl, inr, ◌==◌, ◌&&◌, Bool, true, false, List, [], ◌∷◌, ◌++◌, ap, append_assoc, arith, cond, get_or, length, length-append, sym, refl, ◌∙◌}
 use Rattle.std.specs.List.{list_all, prefix_len}
 use Rattle.std.proofs.lemmas.Bool.{and_parts, both_ways, eqb-true}

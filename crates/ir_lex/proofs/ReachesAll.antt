@@ -1,4 +1,4 @@
--- The longest token is no shorter than any text of a kind at the front: the kinds left, and all.
+-- The longest token is no shorter than any text of a kind at the start: the kinds left, and all.
 use Rattle.std.proofs.Common.{◌≡◌, ℕ, ◌+◌, ◌≤◌, ◌⊎◌, inl, inr, ◌==◌, ◌||◌, Bool, true, false, List, ◌∷◌, ◌++◌, ap, append_assoc, arith, codes, cond, drop, get_or, length, length-append, sym, take, refl, ◌∙◌}
 use Rattle.std.specs.Str.{bytes_eq}
 use Rattle.std.proofs.lemmas.Bool.{eqb-true, or_from}
@@ -9,7 +9,7 @@ use Rattle.std.proofs.Math.Seq.{drop-append_seam}
 use Rattle.ir_lex.specs.Characters.{is_digit, is_in, run}
 use Rattle.ir_lex.specs.Lengths.{decimal_len, format_len, hexadecimal_len, int_len, len_of, minus_len, more_than, point_len, real_len, spelled_len, word_len}
 use Rattle.ir_lex.specs.Spelling.{IsFormat, IsHexadecimal, IsRun, IsWord, Spells}
-use Rattle.ir_lex.specs.Splitting.{front_of}
+use Rattle.ir_lex.specs.Splitting.{longest_match}
 use Rattle.ir_lex.specs.declared.class.Class.TheVariants.{Hexadecimal, Name}
 use Rattle.ir_lex.specs.declared.kind.Kind.{Kind}
 use Rattle.ir_lex.specs.declared.kind.Kind.TheVariants.{Label, Int, Real, Word, Str, CStr, Global, Local, Meta, Attr, Equal, Comma, Star, OpenRound, CloseRound, OpenSquare, CloseSquare, OpenCurly, CloseCurly, OpenPacked, ClosePacked, Less, Greater, Bar, Bang, Ellipsis}
@@ -108,8 +108,8 @@ name_reaches text rest is = go dots refl
     go true e =
         let whole : take n bytes ≡ codes "..." = (bytes_eq-Decides (take n bytes) (codes "...")).0 e in
         let three : n ≡ 3 = sym (length-prefix_len (is_in Name) bytes) ∙ ap length whole in
-        let front : take 3 bytes ≡ codes "..." = ap (λ k. take k bytes) (sym three) ∙ whole in
-        inr (omega (arith, long, three, ap {B = ℕ} (λ t. cond t (length (codes "...")) 0) ((bytes_eq-Decides (take 3 bytes) (codes "...")).1 front)))
+        let dots : take 3 bytes ≡ codes "..." = ap (λ k. take k bytes) (sym three) ∙ whole in
+        inr (omega (arith, long, three, ap {B = ℕ} (λ t. cond t (length (codes "...")) 0) ((bytes_eq-Decides (take 3 bytes) (codes "...")).1 dots)))
     go false e = inl (omega (arith, long, ap (λ t. cond t 0 n) (or_from (is_digit b || b == 45) dots first e)))
 
 after_mark : (mark : ℕ) (text content rest : List ℕ) (len : List ℕ → ℕ) → text ≡ mark ∷ content → 1 + length content ≤ len (mark ∷ (content ++ rest)) → length text ≤ len (text ++ rest)
@@ -149,7 +149,7 @@ len_reaches Bar text rest is = inl (as_spelled (codes "|") text rest is)
 len_reaches Bang text rest is = inl (as_spelled (codes "!") text rest is)
 len_reaches Ellipsis text rest is = inl (as_spelled (codes "...") text rest is)
 
-pub reaches : (kind : Kind) (text rest : List ℕ) → Spells kind text → length text ≤ (front_of (text ++ rest)).len
+pub reaches : (kind : Kind) (text rest : List ℕ) → Spells kind text → length text ≤ (longest_match (text ++ rest)).len
 reaches kind text rest is = elim (len_reaches kind text rest is) [
   | inl own ↦ omega (arith, own, none_longer (text ++ rest) kind)
   | inr dots ↦ omega (arith, dots, none_longer (text ++ rest) Ellipsis)

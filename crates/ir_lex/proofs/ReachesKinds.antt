@@ -1,4 +1,4 @@
--- The longest token is no shorter than any text of a kind at the front.
+-- The longest token is no shorter than any text of a kind at the start.
 use Rattle.std.proofs.Common.{◌≡◌, ℕ, suc, ◌+◌, ◌<◌, ◌≤◌, ◌⊎◌, inl, inr, ◌==◌, ◌&&◌, ◌||◌, not, true, false, List, [], ◌∷◌, ◌++◌, ap, append_assoc, arith, cond, drop, get_or, length, length-append, sym, take, refl, ◌∙◌}
 use Rattle.std.proofs.lemmas.Bool.{eq-eqb}
 use Rattle.std.proofs.lemmas.Slice.Eq.{bytes_eq-Decides}

@@ -6,14 +6,14 @@ use Rattle.std.proofs.lemmas.List.{drop-drop, drop_all, length-drop}
 use Rattle.std.proofs.lemmas.List.Elements.{All-cons, All-nil}
 use Rattle.ir_lex.specs.BadPlaces.{AreTokens, BeginsNothing, BeginsRefused, IsAccepted, IsBadPlace}
 use Rattle.ir_lex.specs.Separated.{AreSeparated, past_gap}
-use Rattle.ir_lex.specs.Splitting.{AreSpans, IsTokenOf, after, after_token, begun, front_of, gap_len, is_refused, line_of, piece_of, token_at, tokens_from, tokens_of}
-use Rattle.ir_lex.specs.declared.front.Front.{Front}
+use Rattle.ir_lex.specs.Splitting.{AreSpans, IsTokenOf, after, after_token, begun, longest_match, gap_len, is_refused, line_of, piece_of, token_at, tokens_from, tokens_of}
+use Rattle.ir_lex.specs.declared.longest_match.LongestMatch.{LongestMatch}
 use Rattle.ir_lex.specs.declared.kind.Token.{Token}
 use Rattle.ir_lex.specs.declared.piece.Piece.TheVariants.{Gap, Begins, Bad}
 use Rattle.ir_lex.proofs.Gaps.{past_nothing, past_piece}
 use Rattle.ir_lex.proofs.Nothing.{begins_nothing}
 use Rattle.ir_lex.proofs.Spans.{token_is}
-use Rattle.ir_lex.proofs.Within.{front_within, gap_within}
+use Rattle.ir_lex.proofs.Within.{longest_within, gap_within}
 
 spans_earlier : (from later end : ℕ) (tokens : List Token) → from ≤ later → AreSpans later end tokens → AreSpans from end tokens
 spans_earlier from later end [] h spans = omega (arith, h, spans)
@@ -67,23 +67,23 @@ reads_gap text at n (Err line) same reads = record {
 }
 
 -- a token at a place, before what is read
-module _ (text : List ℕ) (at : ℕ) (front : Front) (here : past_gap false (drop at text) ≡ drop at text) (some : 0 < front.len) (is : front ≡ front_of (drop at text))
-    (accepted : is_refused front.kind (take front.len (drop at text)) ≡ false) where
-  token_before : (end : ℕ) (tokens : List Token) → AreTokens text (at + front.len) end tokens → AreTokens text at end (token_at text at front ∷ tokens)
+module _ (text : List ℕ) (at : ℕ) (found : LongestMatch) (here : past_gap false (drop at text) ≡ drop at text) (some : 0 < found.len) (is : found ≡ longest_match (drop at text))
+    (accepted : is_refused found.kind (take found.len (drop at text)) ≡ false) where
+  token_before : (end : ℕ) (tokens : List Token) → AreTokens text (at + found.len) end tokens → AreTokens text at end (token_at text at found ∷ tokens)
   unfolding token_at
   token_before end tokens are = record {
     spans = (omega arith, some, are.spans);
-    each = All-cons (IsTokenOf text) (token_at text at front) tokens (token_is text at (line_of text at) front some is refl) are.each;
-    accepted = All-cons (IsAccepted text) (token_at text at front) tokens accepted are.accepted;
+    each = All-cons (IsTokenOf text) (token_at text at found) tokens (token_is text at (line_of text at) found some is refl) are.each;
+    accepted = All-cons (IsAccepted text) (token_at text at found) tokens accepted are.accepted;
     separated = (here, are.separated);
   }
 
-  reads_token : (read : Result (List Token) ℕ) → Reads text (at + front.len) read → Reads text at (after_token (token_at text at front) read)
+  reads_token : (read : Result (List Token) ℕ) → Reads text (at + found.len) read → Reads text at (after_token (token_at text at found) read)
   unfolding Reads
   reads_token (Ok tokens) reads = token_before (length text) tokens reads
   reads_token (Err line) reads = record {
     at = reads.at;
-    tokens = token_at text at front ∷ reads.tokens;
+    tokens = token_at text at found ∷ reads.tokens;
     inside = reads.inside;
     before = token_before reads.at reads.tokens reads.before;
     bad = reads.bad;
@@ -100,11 +100,11 @@ stops_here text at inside here bad = record {
   on = refl;
 }
 
-refused_here : (text : List ℕ) (at : ℕ) → 0 < (front_of (drop at text)).len → is_refused (front_of (drop at text)).kind (take (front_of (drop at text)).len (drop at text)) ≡ true → BeginsRefused text at
+refused_here : (text : List ℕ) (at : ℕ) → 0 < (longest_match (drop at text)).len → is_refused (longest_match (drop at text)).kind (take (longest_match (drop at text)).len (drop at text)) ≡ true → BeginsRefused text at
 unfolding token_at
 refused_here text at some refused = record {
-  token = token_at text at (front_of (drop at text));
-  is = token_is text at (line_of text at) (front_of (drop at text)) some refl refl;
+  token = token_at text at (longest_match (drop at text));
+  is = token_is text at (line_of text at) (longest_match (drop at text)) some refl refl;
   starts = refl;
   refused = refused;
 }
@@ -115,31 +115,31 @@ positive n is = grind (arith, is)
 -- what stands at a place, and what is read behind it
 reads_piece : (text : List ℕ) (at : ℕ) (more : ℕ → Result (List Token) ℕ) → at < length text → ((n : ℕ) → 0 < n → at + n ≤ length text → Reads text (at + n) (more n)) → Reads text at (after text at (piece_of (drop at text)) more)
 unfolding piece_of begun Reads
-reads_piece text at more inside reads = cases (gap_len bytes == 0) (front.len == 0) (is_refused front.kind (take front.len bytes)) refl refl refl
+reads_piece text at more inside reads = cases (gap_len bytes == 0) (found.len == 0) (is_refused found.kind (take found.len bytes)) refl refl refl
   where
     bytes : List ℕ
     bytes = drop at text
 
-    front : Front
-    front = front_of bytes
+    found : LongestMatch
+    found = longest_match bytes
 
     left : length bytes ≡ length text - at
     left = length-drop at text
 
-    cases : (no_gap no_token refused : Bool) → gap_len bytes == 0 ≡ no_gap → front.len == 0 ≡ no_token → is_refused front.kind (take front.len bytes) ≡ refused
-        → Reads text at (after text at (cond no_gap (cond (no_token || refused) Bad (Begins front)) (Gap (gap_len bytes))) more)
+    cases : (no_gap no_token refused : Bool) → gap_len bytes == 0 ≡ no_gap → found.len == 0 ≡ no_token → is_refused found.kind (take found.len bytes) ≡ refused
+        → Reads text at (after text at (cond no_gap (cond (no_token || refused) Bad (Begins found)) (Gap (gap_len bytes))) more)
     cases false no_token refused gap token is =
         let some = positive (gap_len bytes) gap in
         reads_gap text at (gap_len bytes) (more (gap_len bytes)) (past_piece bytes some ∙ ap (past_gap false) (drop-drop (gap_len bytes) at text))
         (reads (gap_len bytes) some (omega (arith, inside, left, gap_within bytes (omega (arith, inside, left)))))
     cases true true refused gap token is =
-        stops_here text at inside (past_nothing bytes (eqb-true (gap_len bytes) 0 gap)) (inl (begins_nothing bytes (eqb-true front.len 0 token)))
+        stops_here text at inside (past_nothing bytes (eqb-true (gap_len bytes) 0 gap)) (inl (begins_nothing bytes (eqb-true found.len 0 token)))
     cases true false true gap token is =
-        stops_here text at inside (past_nothing bytes (eqb-true (gap_len bytes) 0 gap)) (inr (refused_here text at (positive front.len token) is))
+        stops_here text at inside (past_nothing bytes (eqb-true (gap_len bytes) 0 gap)) (inr (refused_here text at (positive found.len token) is))
     cases true false false gap token is =
-        let some = positive front.len token in
-        reads_token text at front (past_nothing bytes (eqb-true (gap_len bytes) 0 gap)) some refl is (more front.len)
-        (reads front.len some (omega (arith, inside, left, front_within bytes)))
+        let some = positive found.len token in
+        reads_token text at found (past_nothing bytes (eqb-true (gap_len bytes) 0 gap)) some refl is (more found.len)
+        (reads found.len some (omega (arith, inside, left, longest_within bytes)))
 
 next : (text : List ℕ) (at b : ℕ) (rest : List ℕ) → b ∷ rest ≡ drop at text → rest ≡ drop (at + 1) text
 next text at b rest is = ap (drop 1) is ∙ drop-drop 1 at text

@@ -8,12 +8,12 @@ use Rattle.std.proofs.lemmas.List.Sums.{sum_by-append}
 use Rattle.std.proofs.Math.Seq.{take-add}
 use Rattle.ir_lex.specs.Escapes.{escape_byte, escape_len, unescaped_after}
 use Rattle.ir_lex.specs.Splitting.{after, after_token, line_feeds, line_of, longer, longest_of, piece_of, token_at, tokens_from, tokens_of}
-use Rattle.ir_lex.specs.declared.front.Front.{Front}
+use Rattle.ir_lex.specs.declared.longest_match.LongestMatch.{LongestMatch}
 use Rattle.ir_lex.specs.declared.kind.Kind.{Kind}
 use Rattle.ir_lex.specs.declared.kind.Token.{Token}
 use Rattle.ir_lex.specs.declared.piece.Piece.TheVariants.{Gap, Begins, Bad}
 
-pub longest_step : (all : List Kind) (best : Front) (bytes : List ℕ) (i : ℕ) (d : Kind) → i < length all → longest_of (drop i all) best bytes ≡ longest_of (drop (i + 1) all) (longer best (get_or all i d) bytes) bytes
+pub longest_step : (all : List Kind) (best : LongestMatch) (bytes : List ℕ) (i : ℕ) (d : Kind) → i < length all → longest_of (drop i all) best bytes ≡ longest_of (drop (i + 1) all) (longer best (get_or all i d) bytes) bytes
 unfolding longest_of
 longest_step all best bytes i d l = at_drop_more (λ ks. longest_of ks best bytes) all i d l
 
@@ -35,7 +35,7 @@ unescaped_step (b ∷ bytes) some more =
     ap (λ xs. escape_byte (b ∷ bytes) ∷ xs) (unescaped_past (escape_len (b ∷ bytes) - 1) bytes
     ∙ ap (λ xs. unescaped_after 0 xs) (drop_past (escape_len (b ∷ bytes)) b bytes more))
 
--- whether a byte 0 stands at the front, or further on
+-- whether a byte 0 stands at the start, or further on
 pub zero_now : (bytes : List ℕ) → 0 < length bytes → escape_byte bytes ≡ 0 → list_any (λ b. b == 0) (unescaped_after 0 bytes) ≡ true
 unfolding unescaped_after
 zero_now [] some is = absurd (omega arith)
@@ -72,12 +72,12 @@ tokens_gap text at n [] some h is = absurd (omega arith)
 tokens_gap text at n (b ∷ rest) some h is =
     ap (λ p. after text at p (λ n. tokens_from text (n - 1) (at + 1) rest)) (sym is) ∙ tokens_more text n at b rest some h
 
-pub tokens_begins : (text : List ℕ) (at : ℕ) (front : Front) (rest : List ℕ) → 0 < front.len → front.len ≤ length rest → Begins front ≡ piece_of rest → tokens_from text 0 at rest ≡ after_token (token_at text at front) (tokens_from text 0 (at + front.len) (drop front.len rest))
+pub tokens_begins : (text : List ℕ) (at : ℕ) (found : LongestMatch) (rest : List ℕ) → 0 < found.len → found.len ≤ length rest → Begins found ≡ piece_of rest → tokens_from text 0 at rest ≡ after_token (token_at text at found) (tokens_from text 0 (at + found.len) (drop found.len rest))
 unfolding tokens_from
-tokens_begins text at front [] some h is = absurd (omega arith)
-tokens_begins text at front (b ∷ rest) some h is =
+tokens_begins text at found [] some h is = absurd (omega arith)
+tokens_begins text at found (b ∷ rest) some h is =
     ap (λ p. after text at p (λ n. tokens_from text (n - 1) (at + 1) rest)) (sym is)
-    ∙ ap (after_token (token_at text at front)) (tokens_more text front.len at b rest some h)
+    ∙ ap (after_token (token_at text at found)) (tokens_more text found.len at b rest some h)
 
 pub tokens_bad : (text : List ℕ) (at : ℕ) (rest : List ℕ) → 0 < length rest → Bad ≡ piece_of rest → tokens_from text 0 at rest ≡ Err (line_of text at)
 unfolding tokens_from
@@ -122,12 +122,12 @@ all_gap text tokens at n inside some fits is =
     ap (λ xs. before tokens (tokens_from text 0 (at + n) xs)) (sym (drop-drop n at text))
     ∙ ap (before tokens) (sym (tokens_gap text at n (drop at text) some fits is))
 
-pub all_begins : (text : List ℕ) (tokens : List Token) (at : ℕ) (front : Front) → at < length text → 0 < front.len → front.len ≤ length (drop at text) → Begins front ≡ piece_of (drop at text)
-    → before (tokens ++ token_at text at front ∷ []) (tokens_from text 0 (at + front.len) (drop (at + front.len) text)) ≡ before tokens (tokens_from text 0 at (drop at text))
-all_begins text tokens at front inside some fits is =
-    ap (λ xs. before (tokens ++ token_at text at front ∷ []) (tokens_from text 0 (at + front.len) xs)) (sym (drop-drop front.len at text))
-    ∙ before_push tokens (token_at text at front) (tokens_from text 0 (at + front.len) (drop front.len (drop at text)))
-    ∙ ap (before tokens) (sym (tokens_begins text at front (drop at text) some fits is))
+pub all_begins : (text : List ℕ) (tokens : List Token) (at : ℕ) (found : LongestMatch) → at < length text → 0 < found.len → found.len ≤ length (drop at text) → Begins found ≡ piece_of (drop at text)
+    → before (tokens ++ token_at text at found ∷ []) (tokens_from text 0 (at + found.len) (drop (at + found.len) text)) ≡ before tokens (tokens_from text 0 at (drop at text))
+all_begins text tokens at found inside some fits is =
+    ap (λ xs. before (tokens ++ token_at text at found ∷ []) (tokens_from text 0 (at + found.len) xs)) (sym (drop-drop found.len at text))
+    ∙ before_push tokens (token_at text at found) (tokens_from text 0 (at + found.len) (drop found.len (drop at text)))
+    ∙ ap (before tokens) (sym (tokens_begins text at found (drop at text) some fits is))
 
 pub all_bad : (text : List ℕ) (tokens : List Token) (at : ℕ) → at < length text → Bad ≡ piece_of (drop at text) → before tokens (tokens_from text 0 at (drop at text)) ≡ Err (line_of text at)
 unfolding before

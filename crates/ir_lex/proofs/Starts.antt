@@ -8,12 +8,12 @@ use denote.Enum.Bare.{same_true}
 use denote.Enum.Declared.{tag_of}
 use Rattle.ir_lex.specs.Characters.{is_digit, is_name_byte, run}
 use Rattle.ir_lex.specs.Lengths.{attribute_len, content_len, cstring_len, decimal_len, exponent_len, format_len, hexadecimal_len, int_len, label_len, len_of, marked_len, minus_len, more_than, point_len, real_len, spelled_len, string_len, word_len}
-use Rattle.ir_lex.specs.Splitting.{front_of, kinds, longer, longest_of}
+use Rattle.ir_lex.specs.Splitting.{longest_match, kinds, longer, longest_of}
 use Rattle.ir_lex.specs.Starts.{begins_word, kinds_of, marks, none, start_of}
 use Rattle.ir_lex.specs.contracts.kind.Kind.{the_type}
 use Rattle.ir_lex.specs.declared.class.Class.TheVariants.{Digit, Hexadecimal, Quoted}
 use Rattle.ir_lex.specs.declared.class.Class.TheVariants.{Name as NameByte}
-use Rattle.ir_lex.specs.declared.front.Front.{Front}
+use Rattle.ir_lex.specs.declared.longest_match.LongestMatch.{LongestMatch}
 use Rattle.ir_lex.specs.declared.kind.Kind.{Kind}
 use Rattle.ir_lex.specs.declared.kind.Kind.TheVariants as kind
 use Rattle.ir_lex.specs.declared.start.Start.{Start}
@@ -179,22 +179,22 @@ no_token kind.Bar bytes off = spelled_none 124 [] bytes off
 no_token kind.Bang bytes off = spelled_none 33 [] bytes off
 
 -- a kind that has no token here changes nothing
-longer_none : (best : Front) (kind : Kind) (bytes : List ℕ) → len_of kind bytes ≡ 0 → longer best kind bytes ≡ best
+longer_none : (best : LongestMatch) (kind : Kind) (bytes : List ℕ) → len_of kind bytes ≡ 0 → longer best kind bytes ≡ best
 unfolding longer
 longer_none best kind bytes off = ap (λ n. cond (nat_lt best.len n) (record { kind = kind; len = n }) best) off ∙ never best.len
   where
     never : (n : ℕ) → cond (nat_lt n 0) (record { kind = kind; len = 0 }) best ≡ best
     never n = ap (λ t. cond t (record { kind = kind; len = 0 }) best) (false_from_ne_true (nat_lt n 0) (λ e. absurd (grind (arith, e))))
 
-left_out : (t : Bool) (kind : Kind) (few all : List Kind) (best : Front) (bytes : List ℕ) → begins kind (get_or bytes 0 0) ≡ t
-    → ((start : Front) → longest_of few start bytes ≡ longest_of all start bytes)
+left_out : (t : Bool) (kind : Kind) (few all : List Kind) (best : LongestMatch) (bytes : List ℕ) → begins kind (get_or bytes 0 0) ≡ t
+    → ((start : LongestMatch) → longest_of few start bytes ≡ longest_of all start bytes)
     → longest_of (cond t (kind ∷ few) few) best bytes ≡ longest_of all (longer best kind bytes) bytes
 unfolding longest_of
 left_out true kind few all best bytes is same = same (longer best kind bytes)
 left_out false kind few all best bytes is same =
     same best ∙ ap (λ start. longest_of all start bytes) (sym (longer_none best kind bytes (no_token kind bytes is)))
 
-only_begun : (all : List Kind) (best : Front) (bytes : List ℕ) → longest_of (filter (λ kind. begins kind (get_or bytes 0 0)) all) best bytes ≡ longest_of all best bytes
+only_begun : (all : List Kind) (best : LongestMatch) (bytes : List ℕ) → longest_of (filter (λ kind. begins kind (get_or bytes 0 0)) all) best bytes ≡ longest_of all best bytes
 unfolding longest_of
 only_begun [] best bytes = refl
 only_begun (kind ∷ all) best bytes =
@@ -249,9 +249,9 @@ module _ (bytes : List ℕ) (byte : ℕ) (start : Start) (first : byte ≡ get_o
   unfolding is_right
   both = and_parts (bytes_eq (map number (kinds_of (start_of byte))) (map number (filter (λ kind. begins kind byte) kinds))) (is_sound (start_of byte) byte) (right byte fits)
 
-  pub front_by : longest_of (kinds_of start) none bytes ≡ front_of bytes
-  unfolding front_of few
-  front_by =
+  pub longest_by : longest_of (kinds_of start) none bytes ≡ longest_match bytes
+  unfolding longest_match few
+  longest_by =
       ap (λ s. longest_of (kinds_of s) none bytes) is
       ∙ ap (λ ks. longest_of ks none bytes) (same_kinds (kinds_of (start_of byte)) few ((bytes_eq-Decides (map number (kinds_of (start_of byte))) (map number few)).0 both.0))
       ∙ ap (λ b. longest_of (filter (λ kind. begins kind b) kinds) none bytes) first
@@ -311,8 +311,8 @@ longest_single : (kind : Kind) (bytes : List ℕ) → len_of kind bytes ≡ 1 �
 unfolding longest_of longer
 longest_single kind bytes is = ap (λ n. cond (nat_lt 0 n) (record { kind = kind; len = n }) none) is
 
-pub single_front : (bytes : List ℕ) (byte : ℕ) (kind : Kind) → byte ≡ get_or bytes 0 0 → byte < 256 → Single kind ≡ start_of byte → record { kind = kind; len = 1 } ≡ front_of bytes
+pub single_match : (bytes : List ℕ) (byte : ℕ) (kind : Kind) → byte ≡ get_or bytes 0 0 → byte < 256 → Single kind ≡ start_of byte → record { kind = kind; len = 1 } ≡ longest_match bytes
 unfolding is_sound
-single_front bytes byte kind first fits is =
+single_match bytes byte kind first fits is =
     sym (longest_single kind bytes (single_len kind bytes (sound bytes byte (Single kind) first fits is)))
-    ∙ front_by bytes byte (Single kind) first fits is
+    ∙ longest_by bytes byte (Single kind) first fits is

@@ -7,7 +7,7 @@ use Rattle.std.proofs.lemmas.List.Sums.{prefix_len-le-length}
 use Rattle.std.proofs.lemmas.Slice.Eq.{bytes_eq-Decides}
 use Rattle.ir_lex.specs.Characters.{is_blank, is_in, run}
 use Rattle.ir_lex.specs.Lengths.{attribute_len, content_len, cstring_len, decimal_len, exponent_len, format_len, hexadecimal_len, int_len, label_len, len_of, marked_len, minus_len, more_than, point_len, real_len, sign_len, spelled_len, string_len, word_len}
-use Rattle.ir_lex.specs.Splitting.{front_of, gap_len}
+use Rattle.ir_lex.specs.Splitting.{longest_match, gap_len}
 use Rattle.ir_lex.specs.declared.class.Class.{Class}
 use Rattle.ir_lex.specs.declared.class.Class.TheVariants.{Comment, Digit, Hexadecimal, Name, Quoted}
 use Rattle.ir_lex.specs.declared.kind.Kind.{Kind}
@@ -156,9 +156,9 @@ len_within Bar bytes = spelled_within (codes "|") bytes
 len_within Bang bytes = spelled_within (codes "!") bytes
 len_within Ellipsis bytes = spelled_within (codes "...") bytes
 
-pub front_within : (bytes : List ℕ) → (front_of bytes).len ≤ length bytes
-front_within bytes = elim (cases_lt 0 (front_of bytes).len) [
-  | inl some ↦ omega (arith, len_is_own bytes some, len_within (front_of bytes).kind bytes)
+pub longest_within : (bytes : List ℕ) → (longest_match bytes).len ≤ length bytes
+longest_within bytes = elim (cases_lt 0 (longest_match bytes).len) [
+  | inl some ↦ omega (arith, len_is_own bytes some, len_within (longest_match bytes).kind bytes)
   | inr none ↦ omega (arith, none)
 ]
 

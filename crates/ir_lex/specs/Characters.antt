@@ -29,6 +29,6 @@ is_in Name b = is_name_byte b
 is_in Quoted b = not (b == 34)
 is_in Comment b = not (b == 10)
 
--- how many bytes of a class stand at the front
+-- how many bytes of a class stand at the start
 abbrev pub run : Class → List ℕ → ℕ
 run class bytes = prefix_len (is_in class) bytes

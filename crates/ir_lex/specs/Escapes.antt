@@ -8,11 +8,11 @@ use Rattle.ir_lex.specs.Characters.{is_digit, is_hexadecimal}
 abbrev pub digit_of : ℕ → ℕ
 digit_of b = if is_digit b then b - 48 else if nat_le 97 b then b - 87 else b - 55
 
--- whether `\` and two hexadecimal digits stand at the front
+-- whether `\` and two hexadecimal digits stand at the start
 unfoldable pub is_numbered : List ℕ → Bool
 is_numbered bytes = slice_index bytes 0 == 92 && is_hexadecimal (slice_index bytes 1) && is_hexadecimal (slice_index bytes 2)
 
--- how many bytes at the front stand for one
+-- how many bytes at the start stand for one
 unfoldable pub escape_len : List ℕ → ℕ
 escape_len bytes =
     if is_numbered bytes then 3

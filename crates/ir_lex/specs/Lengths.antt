@@ -1,4 +1,4 @@
--- How long the token of each kind is that begins at the front of the bytes; 0 where none begins.
+-- How long the token of each kind is that begins at the start of the bytes; 0 where none begins.
 use Rattle.std.specs.Prelude.{ℕ, ◌+◌, not, ◌&&◌, ◌||◌, ◌==◌, List, codes, drop, length, slice_index, take, if◌then◌else◌}
 use Rattle.std.specs.Str.{bytes_eq}
 use Rattle.ir_lex.specs.Characters.{is_digit, run}
@@ -30,7 +30,7 @@ label_len bytes =
     if slice_index bytes (content_len bytes) == 58 && not (content_len bytes == 0)
     then content_len bytes + 1 else 0
 
--- 1 where the front is `-`
+-- 1 where the first byte is `-`
 unfoldable pub minus_len : List ℕ → ℕ
 minus_len bytes = if slice_index bytes 0 == 45 then 1 else 0
 
@@ -42,7 +42,7 @@ int_len bytes = more_than (minus_len bytes) (run Digit (drop (minus_len bytes) b
 unfoldable pub point_len : List ℕ → ℕ
 point_len bytes = if slice_index bytes 0 == 46 then more_than 1 (run Digit (drop 1 bytes)) else 0
 
--- 1 where the front is `+` or `-`
+-- 1 where the first byte is `+` or `-`
 unfoldable pub sign_len : List ℕ → ℕ
 sign_len bytes = if slice_index bytes 0 == 43 || slice_index bytes 0 == 45 then 1 else 0
 
@@ -59,7 +59,7 @@ decimal_len bytes =
     let m = point_len (drop k bytes) in
     if k == 0 || m == 0 then 0 else k + m + exponent_len (drop (k + m) bytes)
 
--- 1 where the front is one of `K L M H R`
+-- 1 where the first byte is one of `K L M H R`
 unfoldable pub format_len : List ℕ → ℕ
 format_len bytes =
     let b = slice_index bytes 0 in

@@ -8,7 +8,7 @@ use Rattle.ir_lex.specs.Lengths.{len_of}
 use Rattle.ir_lex.specs.Literals.{is_in_range}
 use Rattle.ir_lex.specs.Spelling.{Spells}
 use Rattle.ir_lex.specs.declared.class.Class.TheVariants.{Comment}
-use Rattle.ir_lex.specs.declared.front.Front.{Front}
+use Rattle.ir_lex.specs.declared.longest_match.LongestMatch.{LongestMatch}
 use Rattle.ir_lex.specs.declared.kind.Kind.{Kind}
 use Rattle.ir_lex.specs.declared.kind.Kind.TheVariants.{Label, Int, Real, Word, Str, CStr, Global, Local, Meta, Attr, Equal, Comma, Star, OpenRound, CloseRound, OpenSquare, CloseSquare, OpenCurly, CloseCurly, OpenPacked, ClosePacked, Less, Greater, Bar, Bang, Ellipsis}
 use Rattle.ir_lex.specs.declared.kind.Token.{Token}
@@ -21,16 +21,16 @@ abbrev pub kinds : List Kind
 kinds = Label ∷ Int ∷ Real ∷ Word ∷ Str ∷ CStr ∷ Global ∷ Local ∷ Meta ∷ Attr ∷ Equal ∷ Comma ∷ Star ∷ OpenRound ∷ CloseRound ∷ OpenSquare ∷ CloseSquare ∷ OpenCurly ∷ CloseCurly ∷ OpenPacked ∷ ClosePacked ∷ Less ∷ Greater ∷ Bar ∷ Bang ∷ Ellipsis ∷ []
 
 -- the best so far, or the token of this kind where it is longer
-unfoldable pub longer : Front → Kind → List ℕ → Front
+unfoldable pub longer : LongestMatch → Kind → List ℕ → LongestMatch
 longer best kind bytes = if nat_lt best.len (len_of kind bytes) then record { kind = kind; len = len_of kind bytes } else best
 
-unfoldable pub longest_of : List Kind → Front → List ℕ → Front
+unfoldable pub longest_of : List Kind → LongestMatch → List ℕ → LongestMatch
 longest_of [] best bytes = best
 longest_of (kind ∷ rest) best bytes = longest_of rest (longer best kind bytes) bytes
 
--- the longest token at the front, of length 0 where none begins
-unfoldable pub front_of : List ℕ → Front
-front_of bytes = longest_of kinds (record { kind = Label; len = 0 }) bytes
+-- the longest token at the start, of length 0 where none begins
+unfoldable pub longest_match : List ℕ → LongestMatch
+longest_match bytes = longest_of kinds (record { kind = Label; len = 0 }) bytes
 
 -- what parts tokens: a blank, a tab, a carriage return, a line feed, or `;` to the end of its line
 unfoldable pub gap_len : List ℕ → ℕ
@@ -47,22 +47,22 @@ is_refused Label text = holds_zero text
 is_refused kind text = false
 
 -- a token, unless there is none or it is refused
-unfoldable pub begun : Front → List ℕ → Piece
-begun front bytes = if front.len == 0 || is_refused front.kind (take front.len bytes) then Bad else Begins front
+unfoldable pub begun : LongestMatch → List ℕ → Piece
+begun found bytes = if found.len == 0 || is_refused found.kind (take found.len bytes) then Bad else Begins found
 
--- what stands at the front
+-- what stands at the start
 unfoldable pub piece_of : List ℕ → Piece
-piece_of bytes = if gap_len bytes == 0 then begun (front_of bytes) bytes else Gap (gap_len bytes)
+piece_of bytes = if gap_len bytes == 0 then begun (longest_match bytes) bytes else Gap (gap_len bytes)
 
 abbrev pub piece_len : Piece → ℕ
 piece_len (Gap n) = n
-piece_len (Begins front) = front.len
+piece_len (Begins found) = found.len
 piece_len Bad = 0
 
 -- a gap and a token have bytes
 abbrev pub HasBytes : Piece → Type 0
 HasBytes (Gap n) = 0 < n
-HasBytes (Begins front) = 0 < front.len
+HasBytes (Begins found) = 0 < found.len
 HasBytes Bad = Unit {0}
 
 abbrev pub line_feeds : List ℕ → ℕ
@@ -72,8 +72,8 @@ line_feeds bytes = count_by (λ b. b == 10) bytes
 unfoldable pub line_of : List ℕ → ℕ → ℕ
 line_of text at = line_feeds (take at text) + 1
 
-unfoldable pub token_at : List ℕ → ℕ → Front → Token
-token_at text at front = record { kind = front.kind; start = at; len = front.len; line = line_of text at }
+unfoldable pub token_at : List ℕ → ℕ → LongestMatch → Token
+token_at text at found = record { kind = found.kind; start = at; len = found.len; line = line_of text at }
 
 abbrev pub after_token : Token → Result (List Token) ℕ → Result (List Token) ℕ
 after_token token (Ok tokens) = Ok (token ∷ tokens)
@@ -81,7 +81,7 @@ after_token token (Err line) = Err line
 
 abbrev pub after : List ℕ → ℕ → Piece → (ℕ → Result (List Token) ℕ) → Result (List Token) ℕ
 after text at (Gap n) more = more n
-after text at (Begins front) more = after_token (token_at text at front) (more front.len)
+after text at (Begins found) more = after_token (token_at text at found) (more found.len)
 after text at Bad more = Err (line_of text at)
 
 -- the tokens of what stands from a place on, after the first skip bytes, or the line of the first
@@ -103,7 +103,7 @@ Answers (Err NoMemory) read = Unit {0}
 -- a token of a text: spelled as its kind says, the longest that begins at its place, on its line
 pub record IsTokenOf (text : List ℕ) (token : Token) : Type 0 where
   pub spelled : Spells token.kind (take token.len (drop token.start text))
-  pub longest : (kind : Kind) (front rest : List ℕ) → drop token.start text ≡ front ++ rest → Spells kind front → length front ≤ token.len
+  pub longest : (kind : Kind) (prefix rest : List ℕ) → drop token.start text ≡ prefix ++ rest → Spells kind prefix → length prefix ≤ token.len
   pub line : token.line ≡ line_of text token.start
 
 -- tokens that have bytes, each after the one before, from a place on and up to another
@@ -112,7 +112,7 @@ AreSpans from end [] = from ≤ end
 AreSpans from end (token ∷ tokens) = (from ≤ token.start) × (0 < token.len) × AreSpans (token.start + token.len) end tokens
 
 -- the token of a piece is the longest
-abbrev pub IsFront : Piece → List ℕ → Type 0
-IsFront (Gap n) bytes = Unit {0}
-IsFront (Begins front) bytes = front ≡ front_of bytes
-IsFront Bad bytes = Unit {0}
+abbrev pub IsLongest : Piece → List ℕ → Type 0
+IsLongest (Gap n) bytes = Unit {0}
+IsLongest (Begins found) bytes = found ≡ longest_match bytes
+IsLongest Bad bytes = Unit {0}

@@ -1,14 +1,14 @@
 -- Which kinds of tokens begin with a byte.
 use Rattle.std.specs.Prelude.{ℕ, Bool, false, not, ◌&&◌, ◌||◌, ◌==◌, List, [], ◌∷◌, if◌then◌else◌}
 use Rattle.ir_lex.specs.Characters.{is_digit, is_letter, is_name_byte}
-use Rattle.ir_lex.specs.declared.front.Front.{Front}
+use Rattle.ir_lex.specs.declared.longest_match.LongestMatch.{LongestMatch}
 use Rattle.ir_lex.specs.declared.kind.Kind.{Kind}
 use Rattle.ir_lex.specs.declared.kind.Kind.TheVariants as kind
 use Rattle.ir_lex.specs.declared.start.Start.{Start}
 use Rattle.ir_lex.specs.declared.start.Start.TheVariants.{Word, CWord, Dot, Number, Single, Name, Only, Pair, Nothing}
 
 -- no token
-abbrev pub none : Front
+abbrev pub none : LongestMatch
 none = record { kind = kind.Label; len = 0 }
 
 -- what may begin with a byte

@@ -50,7 +50,7 @@ impl Class {
     }
 }
 
-/// How many bytes of a class stand at the front.
+/// How many bytes of a class stand at the start.
 pub(crate) fn run_len(bytes: &[u8], class: Class) -> usize
     ensures value { result ≡ run class bytes.now }
     ensures within { result ≤ length bytes.now }

@@ -21,7 +21,7 @@ fn digit_of(byte: u8) -> u8
     }
 }
 
-/// Whether a backslash and two hexadecimal digits stand at the front.
+/// Whether a backslash and two hexadecimal digits stand at the start.
 #[tactic(auto, unfolding(crate::specs::Escapes::is_numbered))]
 fn is_numbered(bytes: &[u8]) -> bool
     ensures value { result ≡ is_numbered bytes.now }
@@ -34,7 +34,7 @@ fn is_numbered(bytes: &[u8]) -> bool
         && Class::Hexadecimal.holds(byte_at(bytes, 2))
 }
 
-/// How many bytes at the front stand for one.
+/// How many bytes at the start stand for one.
 #[tactic(auto, unfolding(crate::specs::Escapes::escape_len))]
 pub fn escape_len(bytes: &[u8]) -> usize
     ensures value { result ≡ escape_len bytes.now }
@@ -51,7 +51,7 @@ pub fn escape_len(bytes: &[u8]) -> usize
     }
 }
 
-/// The byte that these at the front stand for.
+/// The byte that these at the start stand for.
 #[tactic(auto, unfolding(crate::specs::Escapes::escape_byte))]
 pub fn escape_byte(bytes: &[u8]) -> u8
     ensures { result ≡ escape_byte bytes.now }

@@ -1,4 +1,4 @@
-//! How long the token of each kind is that begins at the front of the bytes.
+//! How long the token of each kind is that begins at the start of the bytes.
 ghost use Rattle.std.specs.Prelude.{◌≡◌, ◌≤◌, length};
 ghost use Rattle.ir_lex.specs.Lengths.{attribute_len, content_len, cstring_len, decimal_len, exponent_len, format_len, hexadecimal_len, int_len, label_len, len_of, marked_len, minus_len, point_len, real_len, sign_len, spelled_len, string_len, word_len};
 
@@ -62,7 +62,7 @@ pub(crate) fn label_len(bytes: &[u8]) -> usize
     }
 }
 
-/// 1 where the front is `-`.
+/// 1 where the first byte is `-`.
 #[tactic(auto, unfolding(crate::specs::Lengths::minus_len))]
 pub(crate) fn minus_len(bytes: &[u8]) -> usize
     ensures value { result ≡ minus_len bytes.now }
@@ -99,7 +99,7 @@ fn point_len(bytes: &[u8]) -> usize
     }
 }
 
-/// 1 where the front is `+` or `-`.
+/// 1 where the first byte is `+` or `-`.
 #[tactic(auto, unfolding(crate::specs::Lengths::sign_len))]
 fn sign_len(bytes: &[u8]) -> usize
     ensures value { result ≡ sign_len bytes.now }
@@ -119,10 +119,10 @@ fn exponent_len(bytes: &[u8]) -> usize
     if first != b'e' && first != b'E' {
         return 0;
     }
-    let front = 1 + sign_len(rest_of(bytes, 1));
-    match run_len(rest_of(bytes, front), Class::Digit) {
+    let before = 1 + sign_len(rest_of(bytes, 1));
+    match run_len(rest_of(bytes, before), Class::Digit) {
         0 => 0,
-        digits => front + digits,
+        digits => before + digits,
     }
 }
 
@@ -140,7 +140,7 @@ fn decimal_len(bytes: &[u8], whole: usize) -> usize
     whole + point + exponent_len(rest_of(bytes, whole + point))
 }
 
-/// 1 where the front is one of `K`, `L`, `M`, `H` and `R`.
+/// 1 where the first byte is one of `K`, `L`, `M`, `H` and `R`.
 #[tactic(auto, unfolding(crate::specs::Lengths::format_len))]
 fn format_len(bytes: &[u8]) -> usize
     ensures value { result ≡ format_len bytes.now }
@@ -161,14 +161,14 @@ fn hexadecimal_len(bytes: &[u8]) -> usize
     if byte_at(bytes, 0) != b'0' || byte_at(bytes, 1) != b'x' {
         return 0;
     }
-    let front = 2 + format_len(rest_of(bytes, 2));
-    match run_len(rest_of(bytes, front), Class::Hexadecimal) {
+    let before = 2 + format_len(rest_of(bytes, 2));
+    match run_len(rest_of(bytes, before), Class::Hexadecimal) {
         0 => 0,
-        digits => front + digits,
+        digits => before + digits,
     }
 }
 
-/// A floating-point literal, where the integer at the front has this length.
+/// A floating-point literal, where the integer at the start has this length.
 #[tactic(auto, unfolding(crate::specs::Lengths::real_len))]
 pub(crate) fn real_len(bytes: &[u8], whole: usize) -> usize
     requires { whole ≡ int_len bytes.now }
@@ -240,7 +240,7 @@ fn attribute_len(bytes: &[u8]) -> usize
     }
 }
 
-/// How long the token of a kind is that begins at the front; 0 where none does.
+/// How long the token of a kind is that begins at the start; 0 where none does.
 #[tactic(auto, unfolding(crate::specs::Lengths::len_of))]
 pub(crate) fn len_of(kind: Kind, bytes: &[u8]) -> usize
     ensures value { result ≡ len_of kind bytes.now }

@@ -38,15 +38,15 @@ pub fn tokens(alloc: Global, bytes: &[u8]) -> Result<Tokens, LexEnd>
         let piece = piece_of(rest);
         let len = match piece {
             Piece::Gap(len) => len,
-            Piece::Begins(front) => {
+            Piece::Begins(found) => {
                 let token = Token {
-                    kind: front.kind,
+                    kind: found.kind,
                     start: at as u32,
-                    len: front.len as u32,
+                    len: found.len as u32,
                     line,
                 };
                 match tokens.push(token) {
-                    Ok(()) => front.len,
+                    Ok(()) => found.len,
                     Err(_) => return Err(LexEnd::NoMemory),
                 }
             }

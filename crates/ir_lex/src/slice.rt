@@ -17,7 +17,7 @@ pub fn rest_of(bytes: &[u8], at: usize) -> &[u8]
 }
 
 /// The first bytes, or all where there are fewer.
-pub fn front_of(bytes: &[u8], len: usize) -> &[u8]
+pub fn prefix_of(bytes: &[u8], len: usize) -> &[u8]
     ensures { result.now ≡ take len bytes.now }
 {
     if len < bytes.len() {

@@ -1,6 +1,6 @@
 -- The steps of a loop that reads the items of a chain. What the loop answers in the end is made of
 -- the items that are left, by a function that each step renews.
-use Rattle.std.proofs.Common.{◌≡◌, not, ◌&&◌, ◌||◌, ◌==◌, arith, ap, append_assoc, drop, refl, subst, sym, true, false, Bool, ℕ, List, [], ◌∷◌, ◌++◌, Ok, Err, Some, None, length, ◌<◌, ◌∙◌, if◌then◌else◌}
+use Rattle.std.proofs.Common.{◌≡◌, not, ◌&&◌, ◌||◌, ◌==◌, arith, ap, append_assoc, drop, refl, subst, sym, true, false, Bool, ℕ, List, [], ◌∷◌, ◌++◌, Ok, Err, Some, None, length, ◌∙◌, if◌then◌else◌}
 use Rattle.std.proofs.lemmas.Bool.Decides.{nat_tests}
 use Rattle.std.proofs.lemmas.List.Elements.{filter_map-append}
 use Rattle.std.specs.List.{filter_map}
@@ -9,7 +9,6 @@ use Rattle.std.specs.declared.result.Result.{Result}
 use Rattle.ir_words.specs.Classes.{first, number, same}
 use Rattle.ir_words.specs.Lexemes.{Lexeme}
 use Rattle.ir_words.specs.declared.class.Class.{Class}
-use Rattle.ir_words.specs.declared.class.Class.TheVariants as class
 use Rattle.ir_rules.specs.Laws.{Lawful}
 use Rattle.ir_rules.specs.Reading.{GivesUnless}
 use Rattle.ir_rules.specs.Repeats.{into, prefixed}

@@ -9,7 +9,7 @@ abbrev pub head : List Lexeme → Option Lexeme
 head [] = None
 head (t ∷ ts) = Some t
 
--- What an answer says of the tokens, for a rule and for it alone: a text and the rest, or a front of
+-- What an answer says of the tokens, for a rule and for it alone: a text and the rest, or a prefix of
 -- a text and the bad token, and the same of any tokens that go on with an equal one.
 abbrev pub Splits : {A : Type 0} → Rule A → List Lexeme → Answer A → Type 0
 Splits r ts (Ok p) =

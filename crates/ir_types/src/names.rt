@@ -6,7 +6,7 @@ ghost use Rattle.ir_types.specs.Names.{between_quotes, name_of, sigil_name};
 use crate::digits::item_number;
 use crate::quoted::unescaped;
 use ir_ident::{Identifier, Name, NameUse};
-use ir_lex::{byte_at, front_of, rest_of};
+use ir_lex::{byte_at, prefix_of, rest_of};
 use ir_words::{Cursor, are_digits};
 use std::alloc::{AllocError, Global};
 
@@ -14,7 +14,7 @@ use std::alloc::{AllocError, Global};
 fn between_quotes(text: &[u8]) -> &[u8]
     ensures { result.now ≡ between_quotes text.now }
 {
-    front_of(rest_of(text, 1), text.len().saturating_sub(2))
+    prefix_of(rest_of(text, 1), text.len().saturating_sub(2))
 }
 
 /// The name that these bytes write, without its sigil or its colon: a number, a string in quotes,

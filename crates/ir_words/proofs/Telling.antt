@@ -37,15 +37,15 @@ no_first : (a b : Bool) → ((a && false) || b) ≡ b
 no_first true b = refl
 no_first false b = refl
 
-never_sized : (fronts : List (List ℕ)) (name : List ℕ) → list_all (λ front. nat_le (length front) 30) fronts ≡ true → 40 ≤ length name → is_sized fronts name ≡ false
+never_sized : (prefixes : List (List ℕ)) (name : List ℕ) → list_all (λ prefix. nat_le (length prefix) 30) prefixes ≡ true → 40 ≤ length name → is_sized prefixes name ≡ false
 unfolding is_sized
 never_sized [] name short long = refl
-never_sized (front ∷ fronts) name short long =
-    let parts : (nat_le (length front) 30 ≡ true) × (list_all (λ f. nat_le (length f) 30) fronts ≡ true) = and_parts _ _ short in
-    ap (λ b. (begins_with front name && b) || is_sized fronts name)
-    (long_width (drop (length front) name) (omega (arith, length-drop (length front) name, leb-true _ _ parts.0, long)))
-    ∙ no_first (begins_with front name) (is_sized fronts name)
-    ∙ never_sized fronts name parts.1 long
+never_sized (prefix ∷ prefixes) name short long =
+    let parts : (nat_le (length prefix) 30 ≡ true) × (list_all (λ f. nat_le (length f) 30) prefixes ≡ true) = and_parts _ _ short in
+    ap (λ b. (begins_with prefix name && b) || is_sized prefixes name)
+    (long_width (drop (length prefix) name) (omega (arith, length-drop (length prefix) name, leb-true _ _ parts.0, long)))
+    ∙ no_first (begins_with prefix name) (is_sized prefixes name)
+    ∙ never_sized prefixes name parts.1 long
 
 -- the class of a long name, by what it begins with
 picked : Bool → Bool → Bool → Class
@@ -59,9 +59,9 @@ long_class name long =
     ∙ ap (λ class. cond (begins_with (codes "llvm.") name) (cond (begins_with (codes "llvm.dbg.") name) MetadataIntrinsic (cond (begins_with (codes "llvm.lifetime.") name) DroppedIntrinsic class)) Global)
     (not_found named name UnknownIntrinsic refl long)
 
-begins_alike : (front name : List ℕ) → length front ≤ 40 → begins_with front (take 40 name) ≡ begins_with front name
+begins_alike : (prefix name : List ℕ) → length prefix ≤ 40 → begins_with prefix (take 40 name) ≡ begins_with prefix name
 unfolding begins_with
-begins_alike front name short = ap (λ xs. bytes_eq xs front) (take-take (length front) 40 name short)
+begins_alike prefix name short = ap (λ xs. bytes_eq xs prefix) (take-take (length prefix) 40 name short)
 
 long_alike : (name : List ℕ) → 40 ≤ length name → name_class (take 40 name) ≡ name_class name
 long_alike name long =
@@ -71,8 +71,8 @@ long_alike name long =
     ∙ ap (λ b. picked (begins_with (codes "llvm.") name) (begins_with (codes "llvm.dbg.") name) b) (begins_alike (codes "llvm.lifetime.") name (omega arith))
     ∙ sym (long_class name long)
 
-pub front_tells : (name : List ℕ) → name_class (take 40 name) ≡ name_class name
-front_tells name = elim (cases_lt 40 (length name)) [
+pub prefix_tells : (name : List ℕ) → name_class (take 40 name) ≡ name_class name
+prefix_tells name = elim (cases_lt 40 (length name)) [
   | inl long ↦ long_alike name (omega (arith, long))
   | inr short ↦ ap name_class (take_all 40 name short)
 ]

@@ -27,11 +27,11 @@ sized =
     codes "llvm.umax.i" ∷ codes "llvm.umin.i" ∷ codes "llvm.abs.i" ∷ []
 
 unfoldable pub begins_with : List ℕ → List ℕ → Bool
-begins_with front name = bytes_eq (take (length front) name) front
+begins_with prefix name = bytes_eq (take (length prefix) name) prefix
 
 -- one of these and a width
 unfoldable pub is_sized : List (List ℕ) → List ℕ → Bool
-is_sized fronts name = list_any (λ front. begins_with front name && is_width (drop (length front) name)) fronts
+is_sized prefixes name = list_any (λ prefix. begins_with prefix name && is_width (drop (length prefix) name)) prefixes
 
 unfoldable pub intrinsic_class : List ℕ → Class
 intrinsic_class name =

@@ -155,7 +155,7 @@ looked_up (entry ∷ entries) word other = if bytes_eq entry.0 word then entry.1
 unfoldable pub is_digits : List ℕ → Bool
 is_digits text = not (length text == 0) && list_all is_digit text
 
--- the digits of a number from 1 to 64, without a zero at the front
+-- the digits of a number from 1 to 64, without a leading zero
 unfoldable pub is_width : List ℕ → Bool
 is_width text = is_digits text && nat_le (length text) 2 && not (slice_index text 0 == 48) && nat_le (decimal_after 0 text) 64
 

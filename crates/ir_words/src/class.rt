@@ -239,7 +239,7 @@ pub enum Class {
     Switch,
     /// `unreachable`
     Unreachable,
-    /// `i` and a width from 1 to 64, written without a zero at its front (LangRef, "Integer Type").
+    /// `i` and a width from 1 to 64, written without a leading zero (LangRef, "Integer Type").
     IntType,
     /// A word of LLVM IR that is not compiled.
     Unsupported,

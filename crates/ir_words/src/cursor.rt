@@ -5,7 +5,7 @@ ghost use Rattle.ir_words.specs.Classes.{first, head_line, head_text};
 ghost use Rattle.ir_words.specs.Lexemes.{lexemes};
 
 use crate::class::Class;
-use crate::front::{after_front, class_at_front, line_at_front, text_at_front};
+use crate::first::{after_first, first_class, first_line, first_text};
 use ir_lex::{Token, Tokens};
 use std::marker::Model;
 
@@ -46,7 +46,7 @@ impl<'t> Cursor<'t> {
     pub fn first(&self) -> Class
         ensures { result ≡ first self.now }
     {
-        class_at_front(self.text, self.tokens)
+        first_class(self.text, self.tokens)
     }
 
     /// How many tokens there are.
@@ -69,14 +69,14 @@ impl<'t> Cursor<'t> {
     pub fn text(&self) -> &'t [u8]
         ensures { result.now ≡ head_text self.now }
     {
-        text_at_front(self.text, self.tokens)
+        first_text(self.text, self.tokens)
     }
 
     /// The line of the first token, counted from 1, or 0 where there is none.
     pub fn line(&self) -> u32
         ensures { result ≡ head_line self.now }
     {
-        line_at_front(self.text, self.tokens)
+        first_line(self.text, self.tokens)
     }
 
     /// The tokens after the first; none where there is none.
@@ -85,7 +85,7 @@ impl<'t> Cursor<'t> {
     {
         Cursor {
             text: self.text,
-            tokens: after_front(self.text, self.tokens),
+            tokens: after_first(self.text, self.tokens),
         }
     }
 

@@ -8,7 +8,7 @@ use crate::class::Class;
 use crate::quoted::{TELLING, unescape};
 use crate::width::is_width;
 use crate::word::looked_up;
-use ir_lex::{byte_at, front_of, rest_of};
+use ir_lex::{byte_at, prefix_of, rest_of};
 
 /// Intrinsics that are known by their whole name.
 const NAMED: [(&[u8], Class); 7] = [
@@ -41,22 +41,22 @@ const SIZED: [&[u8]; 11] = [
 
 /// Whether a name begins with these bytes.
 #[tactic(auto, unfolding(crate::specs::Intrinsics::begins_with))]
-fn begins_with(front: &[u8], name: &[u8]) -> bool
-    ensures { result ≡ begins_with front.now name.now }
+fn begins_with(prefix: &[u8], name: &[u8]) -> bool
+    ensures { result ≡ begins_with prefix.now name.now }
 {
-    name.starts_with(front)
+    name.starts_with(prefix)
 }
 
 /// Whether a name is one of these and a width.
 #[tactic(auto, unfolding(crate::specs::Intrinsics::is_sized))]
-fn is_sized(mut fronts: &[&[u8]], name: &[u8]) -> bool
-    ensures { result ≡ is_sized (map (λ f. f.now) fronts.entry.now) name.now }
+fn is_sized(mut prefixes: &[&[u8]], name: &[u8]) -> bool
+    ensures { result ≡ is_sized (map (λ f. f.now) prefixes.entry.now) name.now }
 {
-    while let [front, rest @ ..] = fronts {
-        if begins_with(front, name) && is_width(rest_of(name, front.len())) {
+    while let [prefix, rest @ ..] = prefixes {
+        if begins_with(prefix, name) && is_width(rest_of(name, prefix.len())) {
             return true;
         }
-        fronts = rest;
+        prefixes = rest;
     }
     false
 }
@@ -109,7 +109,7 @@ fn quoted_class(quoted: &[u8]) -> Class
 {
     let mut name = [0; TELLING];
     let len = unescape(quoted, &mut name);
-    name_class(front_of(&name, len))
+    name_class(prefix_of(&name, len))
 }
 
 /// The class of a global.
@@ -118,7 +118,7 @@ pub(crate) fn global_class(text: &[u8]) -> Class
     ensures { result ≡ global_class text.now }
 {
     if byte_at(text, 1) == b'"' {
-        quoted_class(front_of(rest_of(text, 2), text.len().saturating_sub(3)))
+        quoted_class(prefix_of(rest_of(text, 2), text.len().saturating_sub(3)))
     } else {
         name_class(rest_of(text, 1))
     }

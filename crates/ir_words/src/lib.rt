@@ -4,7 +4,7 @@
 mod class;
 mod cursor;
 mod equality;
-mod front;
+mod first;
 mod global;
 mod lexeme;
 mod quoted;

@@ -43,7 +43,7 @@ fn value_of(digits: &[u8]) -> u32
     }
 }
 
-/// Whether these are the digits of a number from 1 to 64, without a zero at the front.
+/// Whether these are the digits of a number from 1 to 64, without a leading zero.
 #[tactic(auto, unfolding(crate::specs::Words::is_width))]
 pub(crate) fn is_width(text: &[u8]) -> bool
     ensures { result ≡ is_width text.now }

@@ -11,7 +11,7 @@ use Rattle.asm_read.specs.declared.object.Object.{Object}
 use Rattle.asm_read.specs.declared.object.ObjectSymbol.{ObjectSymbol}
 use Rattle.asm_read.specs.declared.object.Section.{Section}
 use Rattle.asm_read.specs.declared.object.Section.TheVariants.{Text}
-use Rattle.obj_link.specs.Layout.{begin_in, begins_of, image_size, instruction_count, low_64, size_of, symbol_address}
+use Rattle.obj_link.specs.Layout.{begin_in, sections_of, image_size, instruction_count, low_64, size_of, symbol_address}
 use Rattle.obj_link.specs.Names.{with_before}
 use Rattle.obj_link.specs.Words.{image_bytes, line_word, name_address, words_of}
 use Rattle.obj_link.proofs.Around.{split_before}
@@ -60,7 +60,7 @@ lines_lie objects before after object prefix lines back is parts =
     let first : List ℕ = flat_map (λ p. words_of objects p.0 p.1) (with_before [] before) in
     let split = lines_split objects before after object prefix lines back is parts in
     let count = length-words objects [] before in
-    let in_front = length-map prefix word in
+    let in_prefix = length-map prefix word in
     let in_lines = length-map lines word in
     let joined = length-append first (map word prefix) in
     let begin = length-bytes (first ++ map word prefix) in
@@ -71,7 +71,7 @@ lines_lie objects before after object prefix lines back is parts =
 -- a symbol of text at an offset of whole lines is at the address of the line there
 by_section : (section : Section) (objects before after : List Object) (object : Object) (s : ObjectSymbol) (k : ℕ) → section ≡ Text
     → objects ≡ before ++ object ∷ after → image_size objects ≤ 67108864 → s.offset ≡ pos (4 * k) → k ≤ length object.words
-    → symbol_address (begin_in (begins_of objects before object) section) s ≡ 0x10000 + 4 * (instruction_count before + k)
+    → symbol_address (begin_in (sections_of objects before object) section) s ≡ 0x10000 + 4 * (instruction_count before + k)
 by_section Text objects before after object s k text is small offset within =
     let size = image_size-instructions before in
     let whole = ap image_size is ∙ sum_by-append size_of before (object ∷ after) in
@@ -81,6 +81,6 @@ by_section Text objects before after object s k text is small offset within =
 
 pub symbol_lies : (objects before after : List Object) (object : Object) (s : ObjectSymbol) (k : ℕ) → s.section ≡ Text
     → objects ≡ before ++ object ∷ after → image_size objects ≤ 67108864 → s.offset ≡ pos (4 * k) → k ≤ length object.words
-    → symbol_address (begin_in (begins_of objects before object) s.section) s ≡ 0x10000 + 4 * (instruction_count before + k)
+    → symbol_address (begin_in (sections_of objects before object) s.section) s ≡ 0x10000 + 4 * (instruction_count before + k)
 symbol_lies objects before after object s k text is small offset within =
     by_section s.section objects before after object s k text is small offset within

@@ -6,8 +6,8 @@ use Rattle.std.proofs.lemmas.List.Folds.{list_any-append}
 use Rattle.asm_read.specs.declared.object.Object.{Object}
 use Rattle.asm_read.specs.declared.object.ObjectSymbol.{ObjectSymbol}
 use Rattle.obj_link.specs.Names.{with_before, defines, defines_global, is_global, undefined_of, undefined}
-use Rattle.obj_link.specs.Layout.{begins_of, address_in, addressed, globals_of, globals}
-use Rattle.obj_link.specs.declared.begins.Begins.{Begins}
+use Rattle.obj_link.specs.Layout.{sections_of, address_in, addressed, globals_of, globals}
+use Rattle.obj_link.specs.declared.sections.SectionAddresses.{SectionAddresses}
 use Rattle.obj_link.specs.declared.image.SymbolAddress.{SymbolAddress}
 use Rattle.obj_link.specs.Words.{global_address, is_named}
 
@@ -23,13 +23,13 @@ is_some-find {A} test (x ∷ xs) = by_test (test x) (is_some-find test xs)
     by_test true later = refl
     by_test false later = later
 
-any-addressed : (begins : Begins) (name : List ℕ) (symbols : List ObjectSymbol)
-    → list_any (λ s. bytes_eq s.name name) (map (addressed begins) (filter (λ s. s.global) symbols)) ≡ list_any (λ s. s.global && bytes_eq s.name name) symbols
-any-addressed begins name [] = refl
-any-addressed begins name (symbol ∷ symbols) = by_test symbol.global (any-addressed begins name symbols)
+any-addressed : (sections : SectionAddresses) (name : List ℕ) (symbols : List ObjectSymbol)
+    → list_any (λ s. bytes_eq s.name name) (map (addressed sections) (filter (λ s. s.global) symbols)) ≡ list_any (λ s. s.global && bytes_eq s.name name) symbols
+any-addressed sections name [] = refl
+any-addressed sections name (symbol ∷ symbols) = by_test symbol.global (any-addressed sections name symbols)
   where
-    by_test : (b : Bool) → list_any (λ s. bytes_eq s.name name) (map (addressed begins) (filter (λ s. s.global) symbols)) ≡ list_any (λ s. s.global && bytes_eq s.name name) symbols
-        → list_any (λ s. bytes_eq s.name name) (map (addressed begins) (cond b (symbol ∷ filter (λ s. s.global) symbols) (filter (λ s. s.global) symbols)))
+    by_test : (b : Bool) → list_any (λ s. bytes_eq s.name name) (map (addressed sections) (filter (λ s. s.global) symbols)) ≡ list_any (λ s. s.global && bytes_eq s.name name) symbols
+        → list_any (λ s. bytes_eq s.name name) (map (addressed sections) (cond b (symbol ∷ filter (λ s. s.global) symbols) (filter (λ s. s.global) symbols)))
         ≡ ((b && bytes_eq symbol.name name) || list_any (λ s. s.global && bytes_eq s.name name) symbols)
     by_test true later = ap (λ r. bytes_eq symbol.name name || r) later
     by_test false later = later
@@ -41,14 +41,14 @@ any-globals all name before [] = refl
 any-globals all name before (object ∷ objects) =
     let later : List SymbolAddress = flat_map (λ p. globals_of all p.0 p.1) (with_before (before ++ object ∷ []) objects) in
     list_any-append (λ s. bytes_eq s.name name) (globals_of all before object) later
-    ∙ ap (λ b. b || list_any (λ s. bytes_eq s.name name) later) (any-addressed (begins_of all before object) name object.symbols)
+    ∙ ap (λ b. b || list_any (λ s. bytes_eq s.name name) later) (any-addressed (sections_of all before object) name object.symbols)
     ∙ ap (λ b. defines_global object name || b) (any-globals all name (before ++ object ∷ []) objects)
 
 named-defined : (objects before : List Object) (object : Object) (name : List ℕ)
     → is_named objects before object name ≡ (defines object name || is_global objects name)
 named-defined objects before object name =
     ap (λ b. b || is_some (global_address (globals objects) name))
-    (is_some-map (address_in (begins_of objects before object)) (find (λ s. bytes_eq s.name name) object.symbols)
+    (is_some-map (address_in (sections_of objects before object)) (find (λ s. bytes_eq s.name name) object.symbols)
     ∙ is_some-find (λ s. bytes_eq s.name name) object.symbols)
     ∙ ap (λ b. defines object name || b)
     (is_some-map (λ s. s.address) (find (λ s. bytes_eq s.name name) (globals objects))

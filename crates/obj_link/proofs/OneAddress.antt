@@ -8,10 +8,10 @@ use Rattle.std.proofs.lemmas.List.Folds.{find-append}
 use Rattle.std.proofs.lemmas.Slice.Eq.{bytes_eq-Decides}
 use Rattle.asm_read.specs.declared.object.Object.{Object}
 use Rattle.asm_read.specs.declared.object.ObjectSymbol.{ObjectSymbol}
-use Rattle.obj_link.specs.Layout.{address_in, addressed, begins_of, globals, globals_of}
+use Rattle.obj_link.specs.Layout.{address_in, addressed, sections_of, globals, globals_of}
 use Rattle.obj_link.specs.Names.{HasDistinctNames, defines, duplicates, duplicates_of, is_global, with_before}
 use Rattle.obj_link.specs.Words.{global_address, name_address}
-use Rattle.obj_link.specs.declared.begins.Begins.{Begins}
+use Rattle.obj_link.specs.declared.sections.SectionAddresses.{SectionAddresses}
 use Rattle.obj_link.specs.declared.image.SymbolAddress.{SymbolAddress}
 use Rattle.obj_link.proofs.Around.{split_before}
 use Rattle.obj_link.proofs.Needs.{any-globals, left_empty}
@@ -46,27 +46,27 @@ find_own (t ∷ symbols) s distinct (suc k, inside, here) =
     ∙ find_own symbols s distinct.1 among
 
 -- the addresses of the global ones among symbols
-abbrev global_among : Begins → List ObjectSymbol → List SymbolAddress
-global_among begins symbols = map (addressed begins) (filter (λ t. t.global) symbols)
+abbrev global_among : SectionAddresses → List ObjectSymbol → List SymbolAddress
+global_among sections symbols = map (addressed sections) (filter (λ t. t.global) symbols)
 
 -- likewise the first global symbol
-find_global : (begins : Begins) (symbols : List ObjectSymbol) (s : ObjectSymbol) → IsDistinct bytes_eq (map (λ t. t.name) symbols) → Contains symbols s
-    → s.global ≡ true → find (λ a. bytes_eq a.name s.name) (global_among begins symbols) ≡ Some (addressed begins s)
+find_global : (sections : SectionAddresses) (symbols : List ObjectSymbol) (s : ObjectSymbol) → IsDistinct bytes_eq (map (λ t. t.name) symbols) → Contains symbols s
+    → s.global ≡ true → find (λ a. bytes_eq a.name s.name) (global_among sections symbols) ≡ Some (addressed sections s)
 unfolding IsDistinct
-find_global begins [] s distinct (k, inside, here) global = absurd (omega arith)
-find_global begins (t ∷ symbols) s distinct (zero, inside, here) global =
+find_global sections [] s distinct (k, inside, here) global = absurd (omega arith)
+find_global sections (t ∷ symbols) s distinct (zero, inside, here) global =
     let rest : List ObjectSymbol = filter (λ u. u.global) symbols in
     let test : SymbolAddress → Bool = λ a. bytes_eq a.name s.name in
-    ap (λ u. find test (map (addressed begins) (cond u.global (u ∷ rest) rest))) here
-    ∙ ap (λ b. find test (map (addressed begins) (cond b (s ∷ rest) rest))) global
-    ∙ ap (λ b. cond b (Some (addressed begins s)) (find test (map (addressed begins) rest))) (same_name s.name)
-find_global begins (t ∷ symbols) s distinct (suc k, inside, here) global =
+    ap (λ u. find test (map (addressed sections) (cond u.global (u ∷ rest) rest))) here
+    ∙ ap (λ b. find test (map (addressed sections) (cond b (s ∷ rest) rest))) global
+    ∙ ap (λ b. cond b (Some (addressed sections s)) (find test (map (addressed sections) rest))) (same_name s.name)
+find_global sections (t ∷ symbols) s distinct (suc k, inside, here) global =
     let among : Contains symbols s = (k, omega arith, here) in
-    by_test t.global (all_at (λ name. bytes_eq t.name name ≡ false) (λ u. u.name) symbols s distinct.0 among) (find_global begins symbols s distinct.1 among global)
+    by_test t.global (all_at (λ name. bytes_eq t.name name ≡ false) (λ u. u.name) symbols s distinct.0 among) (find_global sections symbols s distinct.1 among global)
   where
-    by_test : (b : Bool) → bytes_eq t.name s.name ≡ false → find (λ a. bytes_eq a.name s.name) (global_among begins symbols) ≡ Some (addressed begins s)
-        → find (λ a. bytes_eq a.name s.name) (map (addressed begins) (cond b (t ∷ filter (λ u. u.global) symbols) (filter (λ u. u.global) symbols))) ≡ Some (addressed begins s)
-    by_test true other later = ap (λ c. cond c (Some (addressed begins t)) (find (λ a. bytes_eq a.name s.name) (global_among begins symbols))) other ∙ later
+    by_test : (b : Bool) → bytes_eq t.name s.name ≡ false → find (λ a. bytes_eq a.name s.name) (global_among sections symbols) ≡ Some (addressed sections s)
+        → find (λ a. bytes_eq a.name s.name) (map (addressed sections) (cond b (t ∷ filter (λ u. u.global) symbols) (filter (λ u. u.global) symbols))) ≡ Some (addressed sections s)
+    by_test true other later = ap (λ c. cond c (Some (addressed sections t)) (find (λ a. bytes_eq a.name s.name) (global_among sections symbols))) other ∙ later
     by_test false other later = later
 
 -- no element passes a test that none of a list passes
@@ -94,15 +94,15 @@ new_name objects before after object s is differ among global =
 
 -- an object's own symbol stands for its address there
 pub own_stands : (objects before : List Object) (object : Object) (s : ObjectSymbol) → HasDistinctNames object → Contains object.symbols s
-    → name_address objects before object s.name ≡ address_in (begins_of objects before object) s
+    → name_address objects before object s.name ≡ address_in (sections_of objects before object) s
 own_stands objects before object s distinct among =
-    ap (λ found. unwrap_or (option_map (address_in (begins_of objects before object)) found) (unwrap_or (global_address (globals objects) s.name) 0))
+    ap (λ found. unwrap_or (option_map (address_in (sections_of objects before object)) found) (unwrap_or (global_address (globals objects) s.name) 0))
     (find_own object.symbols s distinct among)
 
 -- a global symbol stands for its address wherever its name is not the object's own
 pub global_stands : (objects before prefix back : List Object) (object other : Object) (s : ObjectSymbol) → objects ≡ prefix ++ other ∷ back
     → duplicates objects ≡ [] → HasDistinctNames other → Contains other.symbols s → s.global ≡ true → defines object s.name ≡ false
-    → name_address objects before object s.name ≡ address_in (begins_of objects prefix other) s
+    → name_address objects before object s.name ≡ address_in (sections_of objects prefix other) s
 global_stands objects before prefix back object other s is differ distinct among global free =
     let test : SymbolAddress → Bool = λ a. bytes_eq a.name s.name in
     let first : List SymbolAddress = flat_map (λ p. globals_of objects p.0 p.1) (with_before [] prefix) in
@@ -111,10 +111,10 @@ global_stands objects before prefix back object other s is differ distinct among
     let found : Option SymbolAddress = find test (here ++ last) in
     let whole : globals objects ≡ first ++ (here ++ last) = split_before (λ p. globals_of objects p.0 p.1) objects prefix other back is in
     let none : find test first ≡ None = find_none test first (any-globals objects s.name [] prefix ∙ new_name objects prefix back other s is differ among global) in
-    let some : find test here ≡ Some (addressed (begins_of objects prefix other) s) = find_global (begins_of objects prefix other) other.symbols s distinct among global in
-    let is_first : find test (globals objects) ≡ Some (addressed (begins_of objects prefix other) s) =
+    let some : find test here ≡ Some (addressed (sections_of objects prefix other) s) = find_global (sections_of objects prefix other) other.symbols s distinct among global in
+    let is_first : find test (globals objects) ≡ Some (addressed (sections_of objects prefix other) s) =
     ap (find test) whole ∙ find-append test first (here ++ last) ∙ ap (λ o. option_or o found) none
     ∙ find-append test here last ∙ ap (λ o. option_or o (find test last)) some in
-    ap (λ o. unwrap_or (option_map (address_in (begins_of objects before object)) o) (unwrap_or (global_address (globals objects) s.name) 0))
+    ap (λ o. unwrap_or (option_map (address_in (sections_of objects before object)) o) (unwrap_or (global_address (globals objects) s.name) 0))
     (find_none (λ t. bytes_eq t.name s.name) object.symbols free)
     ∙ ap (λ o. unwrap_or (option_map (λ a. a.address) o) 0) is_first

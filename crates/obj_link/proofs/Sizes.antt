@@ -6,7 +6,7 @@ use Rattle.std.proofs.lemmas.List.{length-map}
 use Rattle.std.proofs.lemmas.List.Sums.{sum_by-cons}
 use Rattle.asm_read.specs.declared.object.Object.{Object}
 use Rattle.obj_link.specs.Names.{with_before}
-use Rattle.obj_link.specs.Layout.{size_of, image_size, instructions_of, instruction_count, begins_of, globals}
+use Rattle.obj_link.specs.Layout.{size_of, image_size, instructions_of, instruction_count, sections_of, globals}
 use Rattle.obj_link.specs.Words.{line_word, address_of, words_of, image_bytes}
 
 pub image_size-instructions : (objects : List Object) → image_size objects ≡ 4 * instruction_count objects
@@ -29,7 +29,7 @@ length-bytes (word ∷ words) =
 
 length-words_of : (all before : List Object) (object : Object) → length (words_of all before object) ≡ instructions_of object
 length-words_of all before object =
-    length-map object.words (line_word (address_of (begins_of all before object) object.symbols (globals all)))
+    length-map object.words (line_word (address_of (sections_of all before object) object.symbols (globals all)))
 
 pub length-words : (all before objects : List Object) → length (flat_map (λ p. words_of all p.0 p.1) (with_before before objects)) ≡ instruction_count objects
 length-words all before [] = refl

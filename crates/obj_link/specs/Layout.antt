@@ -7,7 +7,7 @@ use Rattle.asm_read.specs.declared.object.Object.{Object}
 use Rattle.asm_read.specs.declared.object.ObjectSymbol.{ObjectSymbol}
 use Rattle.asm_read.specs.declared.object.Section.{Section}
 use Rattle.asm_read.specs.declared.object.Section.TheVariants.{Text}
-use Rattle.obj_link.specs.declared.begins.Begins.{Begins}
+use Rattle.obj_link.specs.declared.sections.SectionAddresses.{SectionAddresses}
 
 abbrev pub instructions_of : Object → ℕ
 instructions_of object = length object.words
@@ -27,15 +27,15 @@ abbrev pub text_begin : List Object → ℕ
 text_begin before = 0x10000 + image_size before
 
 -- where the sections of an object begin, by all objects and those before it
-abbrev pub begins_of : List Object → List Object → Object → Begins
-begins_of objects before object = record { text = text_begin before }
+abbrev pub sections_of : List Object → List Object → Object → SectionAddresses
+sections_of objects before object = record { text = text_begin before }
 
-abbrev pub begin_in : Begins → Section → ℕ
-begin_in begins Text = begins.text
+abbrev pub begin_in : SectionAddresses → Section → ℕ
+begin_in sections Text = sections.text
 
 -- where a section of an object begins
 abbrev pub section_begin : List Object → List Object → Object → Section → ℕ
-section_begin objects before object section = begin_in (begins_of objects before object) section
+section_begin objects before object section = begin_in (sections_of objects before object) section
 
 -- a number modulo 2^64
 abbrev pub low_64 : ℤ → ℕ
@@ -47,15 +47,15 @@ abbrev pub symbol_address : ℕ → ObjectSymbol → ℕ
 symbol_address begin symbol = low_64 (pos begin +ℤ symbol.offset)
 
 -- the address of a symbol of an object whose sections begin here
-abbrev pub address_in : Begins → ObjectSymbol → ℕ
-address_in begins symbol = symbol_address (begin_in begins symbol.section) symbol
+abbrev pub address_in : SectionAddresses → ObjectSymbol → ℕ
+address_in sections symbol = symbol_address (begin_in sections symbol.section) symbol
 
-abbrev pub addressed : Begins → ObjectSymbol → SymbolAddress
-addressed begins symbol = record { name = symbol.name; address = address_in begins symbol }
+abbrev pub addressed : SectionAddresses → ObjectSymbol → SymbolAddress
+addressed sections symbol = record { name = symbol.name; address = address_in sections symbol }
 
 -- the addresses of the symbols of an object
 abbrev pub addresses_of : List Object → List Object → Object → List SymbolAddress
-addresses_of objects before object = map (addressed (begins_of objects before object)) object.symbols
+addresses_of objects before object = map (addressed (sections_of objects before object)) object.symbols
 
 -- the addresses of the symbols of each object
 abbrev pub addresses : List Object → List (List SymbolAddress)
@@ -63,7 +63,7 @@ addresses objects = map (λ p. addresses_of objects p.0 p.1) (with_before [] obj
 
 abbrev pub globals_of : List Object → List Object → Object → List SymbolAddress
 globals_of objects before object =
-    map (addressed (begins_of objects before object)) (filter (λ s. s.global) object.symbols)
+    map (addressed (sections_of objects before object)) (filter (λ s. s.global) object.symbols)
 
 -- the addresses of the global symbols
 abbrev pub globals : List Object → List SymbolAddress

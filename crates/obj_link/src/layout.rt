@@ -1,10 +1,10 @@
 //! Where the sections of each object lie, and the addresses of its symbols.
 ghost use Rattle.std.specs.Prelude.{◌≡◌, ◌≤◌, ◌+◌, ◌-◌, ◌*◌, ◌%◌, ◌^◌, ◌+ℤ◌, ◌++◌, ℕ, ℤ, pos, negsuc, List, length, map, filter, min, IfOk, OnOk};
-ghost use Rattle.obj_link.specs.Layout.{size_of, image_size, begins_of, low_64, address_in, addressed, addresses, globals};
+ghost use Rattle.obj_link.specs.Layout.{size_of, image_size, sections_of, low_64, address_in, addressed, addresses, globals};
 
-use crate::begins::Begins;
 use crate::image::{Addresses, ObjectAddresses, SymbolAddress};
 use crate::inputs::Inputs;
+use crate::sections::SectionAddresses;
 use asm_read::{Object, ObjectSymbol};
 use rv_isa::SymName;
 use std::alloc::{AllocError, Global};
@@ -39,7 +39,7 @@ pub fn all_addresses(alloc: Global, inputs: &Inputs<'_>) -> Result<Addresses, Al
     let mut text = IMAGE_BEGIN;
     for index in 0..inputs.len() {
         let object = inputs.get(index);
-        objects.push(addresses_of(alloc, Begins { text }, object.symbols.as_slice())?)?;
+        objects.push(addresses_of(alloc, SectionAddresses { text }, object.symbols.as_slice())?)?;
         text += text_size(object);
     }
     Ok(Addresses::from_vec(objects))
@@ -57,7 +57,7 @@ pub fn global_addresses(alloc: Global, inputs: &Inputs<'_>) -> Result<ObjectAddr
         push_globals(
             alloc,
             &mut found,
-            Begins { text },
+            SectionAddresses { text },
             object.symbols.as_slice(),
         )?;
         text += text_size(object);
@@ -67,14 +67,14 @@ pub fn global_addresses(alloc: Global, inputs: &Inputs<'_>) -> Result<ObjectAddr
 
 fn addresses_of(
     alloc: Global,
-    begins: Begins,
+    sections: SectionAddresses,
     symbols: &[ObjectSymbol],
 ) -> Result<ObjectAddresses, AllocError>
-    ensures { IfOk result (λ a. a ≡ map (addressed begins) symbols.now) }
+    ensures { IfOk result (λ a. a ≡ map (addressed sections) symbols.now) }
 {
     let mut found = Vec::new(alloc);
     for symbol in symbols {
-        found.push(address_of_symbol(alloc, begins, symbol)?)?;
+        found.push(address_of_symbol(alloc, sections, symbol)?)?;
     }
     Ok(ObjectAddresses::from_vec(found))
 }
@@ -82,15 +82,15 @@ fn addresses_of(
 fn push_globals(
     alloc: Global,
     found: &mut Vec<SymbolAddress>,
-    begins: Begins,
+    sections: SectionAddresses,
     symbols: &[ObjectSymbol],
 ) -> Result<(), AllocError>
     ensures { OnOk result (found.new.items
-        ≡ found.old.items ++ map (addressed begins) (filter (λ s. s.global) symbols.now)) }
+        ≡ found.old.items ++ map (addressed sections) (filter (λ s. s.global) symbols.now)) }
 {
     for symbol in symbols {
         if symbol.global {
-            found.push(address_of_symbol(alloc, begins, symbol)?)?;
+            found.push(address_of_symbol(alloc, sections, symbol)?)?;
         }
     }
     Ok(())
@@ -98,23 +98,23 @@ fn push_globals(
 
 fn address_of_symbol(
     alloc: Global,
-    begins: Begins,
+    sections: SectionAddresses,
     symbol: &ObjectSymbol,
 ) -> Result<SymbolAddress, AllocError>
-    ensures { IfOk result (λ a. a ≡ addressed begins symbol.now) }
+    ensures { IfOk result (λ a. a ≡ addressed sections symbol.now) }
 {
     let name = Vec::from_slice(alloc, symbol.name.as_bytes())?;
     Ok(SymbolAddress {
         name: SymName::from_vec(name),
-        address: symbol_place(begins, symbol),
+        address: symbol_place(sections, symbol),
     })
 }
 
 /// The address of a symbol of an object whose sections begin here.
-pub fn symbol_place(begins: Begins, symbol: &ObjectSymbol) -> u64
-    ensures { result ≡ address_in begins symbol.now }
+pub fn symbol_place(sections: SectionAddresses, symbol: &ObjectSymbol) -> u64
+    ensures { result ≡ address_in sections symbol.now }
 {
-    moved_by(begins.of(symbol.section), symbol.offset)
+    moved_by(sections.of(symbol.section), symbol.offset)
 }
 
 /// The address at this distance from another one.

@@ -1,7 +1,6 @@
 //! A linker: the objects of a program and the runtime become one image at fixed addresses.
 #![tactic(auto)]
 
-mod begins;
 mod image;
 mod inputs;
 mod laws;
@@ -10,6 +9,7 @@ mod linking;
 mod names;
 mod refusal;
 mod runtime;
+mod sections;
 mod words;
 
 pub use image::{Addresses, Bytes, Image, ObjectAddresses, SymbolAddress};

@@ -8,11 +8,11 @@ ghost use Rattle.rv_isa.specs.Relocation.{IsLine, AreLines};
 ghost use Rattle.obj_link.specs.Layout.{low_64, image_size, globals as all_globals};
 ghost use Rattle.obj_link.specs.Words.{low_part, high_part, own_address, global_address, address_of, moved, line_word, words_at, image_bytes};
 
-use crate::begins::Begins;
 use crate::image::SymbolAddress;
 use crate::inputs::Inputs;
 use crate::layout::{IMAGE_BEGIN, symbol_place, text_size};
 use crate::names::own_symbol;
+use crate::sections::SectionAddresses;
 use asm_read::ObjectSymbol;
 use rv_isa::{Inst, Line, encode};
 use std::alloc::{AllocError, Global};
@@ -21,7 +21,7 @@ use std::alloc::{AllocError, Global};
 #[derive(Clone, Copy)]
 struct Scope<'a> {
     /// Where the object's sections begin.
-    begins: Begins,
+    sections: SectionAddresses,
     /// The object's own symbols.
     symbols: &'a [ObjectSymbol],
     /// The global symbols of all objects.
@@ -43,7 +43,7 @@ pub fn bytes_of_image(
     for index in 0..inputs.len() {
         let object = inputs.get(index);
         let scope = Scope {
-            begins: Begins { text },
+            sections: SectionAddresses { text },
             symbols: object.symbols.as_slice(),
             globals,
         };
@@ -58,7 +58,7 @@ fn push_lines(bytes: &mut Vec<u8>, lines: &[Line], scope: Scope<'_>) -> Result<(
     requires { AreLines lines.now }
     ensures { OnOk result (bytes.new.items ≡ bytes.old.items
         ++ flat_map (to_le_bytes w32)
-        (words_at scope.entry.begins scope.entry.symbols.now scope.entry.globals.now lines.now)) }
+        (words_at scope.entry.sections scope.entry.symbols.now scope.entry.globals.now lines.now)) }
 {
     for line in lines {
         bytes.extend_from_slice(&word_of_line(line, scope).to_le_bytes())?;
@@ -70,7 +70,7 @@ fn push_lines(bytes: &mut Vec<u8>, lines: &[Line], scope: Scope<'_>) -> Result<(
 fn word_of_line(line: &Line, scope: Scope<'_>) -> u32
     requires { IsLine line.now }
     ensures { result ≡ line_word
-        (address_of scope.entry.begins scope.entry.symbols.now scope.entry.globals.now)
+        (address_of scope.entry.sections scope.entry.symbols.now scope.entry.globals.now)
         line.now }
 {
     match line {
@@ -130,10 +130,10 @@ fn upper_part(address: u64) -> i64
 /// The address that a name stands for.
 fn address(scope: Scope<'_>, name: &[u8]) -> u64
     ensures { result
-        ≡ address_of scope.entry.begins scope.entry.symbols.now scope.entry.globals.now name.now }
+        ≡ address_of scope.entry.sections scope.entry.symbols.now scope.entry.globals.now name.now }
 {
     match own_symbol(scope.symbols, name) {
-        Some(symbol) => symbol_place(scope.begins, symbol),
+        Some(symbol) => symbol_place(scope.sections, symbol),
         None => match global_symbol(scope.globals, name) {
             Some(symbol) => symbol.address,
             None => 0,

@@ -10,7 +10,7 @@ ended line = line ++ 10 ∷ []
 abbrev pub text_of_lines : List (List ℕ) → List ℕ
 text_of_lines lines = flat_map ended lines
 
--- b at the front of the first piece
+-- b as the first byte of the first piece
 abbrev pub in_first : ℕ → List (List ℕ) → List (List ℕ)
 in_first b [] = (b ∷ []) ∷ []
 in_first b (piece ∷ pieces) = (b ∷ piece) ∷ pieces

@@ -40,16 +40,16 @@ loop-at-preserved c =
           (subst (λ p. feeds ≤ piece_len p) (w.piece-is ∙ ap (λ k. Gap k) (sym w.len-is)) c.feeds_of-line.ensures.within)
           (sym is ∙ c.piece_of-piece.ensures.value))
       | in-Begins+in-Ok w ↦
-          let front = w.in-Begins.front in
-          let is : piece ≡ Begins front = w.in-Begins.is in
-          let len : front.len ≡ n = sym w.len-is in
+          let found = w.in-Begins.found in
+          let is : piece ≡ Begins found = w.in-Begins.is in
+          let len : found.len ≡ n = sym w.len-is in
           subst (Kept text (at + n) (c.loop-at.line + feeds)) (sym (ap (λ ts. ts.items) w.tokens-is ∙ w.in-Ok.ensures.items))
           (kept_begins text at c.loop-at.line feeds n c.loop-at.tokens.items rest c.loop-at.invariant c.loop-at-test.true
           (subst (λ k. 0 < k) len (subst HasBytes is c.piece_of-piece.ensures.some)) c.tail_of-rest.ensures
           (subst (λ k. k ≤ length rest) len (subst (λ p. piece_len p ≤ length rest) is c.piece_of-piece.ensures.within))
           (c.feeds_of-line.ensures.value ∙ ap (λ p. line_feeds (take (piece_len p) rest)) w.piece-is ∙ ap (λ k. line_feeds (take k rest)) len)
           (subst (λ k. feeds ≤ k) len (subst (λ p. feeds ≤ piece_len p) w.piece-is c.feeds_of-line.ensures.within))
-          front len (sym is ∙ c.piece_of-piece.ensures.value))
+          found len (sym is ∙ c.piece_of-piece.ensures.value))
     ]
 
 pub returns-clause-value : goal.returns-clause-value

@@ -3,4 +3,4 @@ use Rattle.obj_link.specs.Layout.{addressed}
 use Rattle.obj_link.proofs.layout.addresses_of.Given as goal
 
 abbrev pub invariant-loop-symbol : goal.invariant-loop-symbol
-invariant-loop-symbol l = l.found.items ≡ map (addressed l.begins) (take l.symbol-index l.symbols)
+invariant-loop-symbol l = l.found.items ≡ map (addressed l.sections) (take l.symbol-index l.symbols)

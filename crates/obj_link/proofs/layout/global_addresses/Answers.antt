@@ -1,11 +1,11 @@
 use Rattle.std.proofs.Common.{◌≡◌, ℕ, ◌++◌, ap, ◌∙◌, arith, take, map, filter}
 use Rattle.obj_link.specs.Layout.{size_of, globals_of, addressed}
-use Rattle.obj_link.specs.declared.begins.Begins.{Begins}
+use Rattle.obj_link.specs.declared.sections.SectionAddresses.{SectionAddresses}
 use Rattle.obj_link.proofs.Placing.{sum_at, sum_at_le, flat_map_at}
 use Rattle.obj_link.proofs.layout.global_addresses.Goals as goal
 
 -- the sections of an object whose text begins here
-abbrev at : ℕ → Begins
+abbrev at : ℕ → SectionAddresses
 at text = record { text = text }
 
 pub overflow_add-text : goal.overflow_add-text

@@ -7,4 +7,4 @@ use Rattle.obj_link.proofs.words.push_lines.Given as goal
 abbrev pub invariant-loop-line : goal.invariant-loop-line
 invariant-loop-line l =
     l.bytes.items ≡ l.initial.bytes.items
-    ++ flat_map (to_le_bytes w32) (words_at l.scope.begins l.scope.symbols.now l.scope.globals.now (take l.line-index l.lines))
+    ++ flat_map (to_le_bytes w32) (words_at l.scope.sections l.scope.symbols.now l.scope.globals.now (take l.line-index l.lines))

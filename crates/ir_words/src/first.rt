@@ -18,7 +18,7 @@ fn text_of<'t>(text: &'t [u8], token: Token) -> &'t [u8]
 }
 
 /// The class of the first token.
-pub(crate) fn class_at_front(text: &[u8], tokens: &[Token]) -> Class
+pub(crate) fn first_class(text: &[u8], tokens: &[Token]) -> Class
     requires { LieIn text.now tokens.now }
     ensures { result ≡ first (lexemes text.now tokens.now) }
 {
@@ -29,7 +29,7 @@ pub(crate) fn class_at_front(text: &[u8], tokens: &[Token]) -> Class
 }
 
 /// The bytes of the first token.
-pub(crate) fn text_at_front<'t>(text: &'t [u8], tokens: &[Token]) -> &'t [u8]
+pub(crate) fn first_text<'t>(text: &'t [u8], tokens: &[Token]) -> &'t [u8]
     requires { LieIn text.now tokens.now }
     ensures { result.now ≡ head_text (lexemes text.now tokens.now) }
 {
@@ -40,7 +40,7 @@ pub(crate) fn text_at_front<'t>(text: &'t [u8], tokens: &[Token]) -> &'t [u8]
 }
 
 /// The line of the first token, or 0 where there is none.
-pub(crate) fn line_at_front(text: &[u8], tokens: &[Token]) -> u32
+pub(crate) fn first_line(text: &[u8], tokens: &[Token]) -> u32
     ensures { result ≡ head_line (lexemes text.now tokens.now) }
 {
     match tokens {
@@ -50,7 +50,7 @@ pub(crate) fn line_at_front(text: &[u8], tokens: &[Token]) -> u32
 }
 
 /// The tokens after the first.
-pub(crate) fn after_front<'t>(text: &[u8], tokens: &'t [Token]) -> &'t [Token]
+pub(crate) fn after_first<'t>(text: &[u8], tokens: &'t [Token]) -> &'t [Token]
     requires { LieIn text.now tokens.now }
     ensures value { lexemes text.now result.now ≡ drop 1 (lexemes text.now tokens.now) }
     ensures within { LieIn text.now result.now }

@@ -56,16 +56,16 @@ module _ (bytes : List ℕ) (is : begins_word (get_or bytes 0 0) ≡ true) where
   name : is_name_byte (get_or bytes 0 0) ≡ true
   name = (and_parts (is_name_byte (get_or bytes 0 0)) (not (is_digit (get_or bytes 0 0) || get_or bytes 0 0 == 45 || get_or bytes 0 0 == 46)) is).0
 
-  pub label_front : get_or bytes (run Name bytes) 0 ≡ 58 → record { kind = kind.Label; len = run Name bytes + 1 } ≡ longest_of (kind.Label ∷ kind.Word ∷ []) none bytes
-  label_front colon =
+  pub label_match : get_or bytes (run Name bytes) 0 ≡ 58 → record { kind = kind.Label; len = run Name bytes + 1 } ≡ longest_of (kind.Label ∷ kind.Word ∷ []) none bytes
+  label_match colon =
       let n = run Name bytes in
       let label : label_len bytes ≡ n + 1 = label_of bytes name ∙ ap (λ t. cond t (n + 1) 0) (eq-eqb (get_or bytes n 0) 58 colon) in
       sym (pair bytes (n + 1) n label (word_of bytes is)
       ∙ ap (λ t. cond (nat_lt (cond t (record { kind = kind.Label; len = n + 1 }) none).len n) (record { kind = kind.Word; len = n }) (cond t (record { kind = kind.Label; len = n + 1 }) none)) (lt-ltb 0 (n + 1) (omega arith))
       ∙ ap (λ t. cond t (record { kind = kind.Word; len = n }) (record { kind = kind.Label; len = n + 1 })) (le-ltb (n + 1) n (omega arith)))
 
-  pub word_front : (get_or bytes (run Name bytes) 0 ≡ 58 → ⊥) → record { kind = kind.Word; len = run Name bytes } ≡ longest_of (kind.Label ∷ kind.Word ∷ []) none bytes
-  word_front other =
+  pub word_match : (get_or bytes (run Name bytes) 0 ≡ 58 → ⊥) → record { kind = kind.Word; len = run Name bytes } ≡ longest_of (kind.Label ∷ kind.Word ∷ []) none bytes
+  word_match other =
       let n = run Name bytes in
       let label : label_len bytes ≡ 0 = label_of bytes name ∙ ap (λ t. cond t (n + 1) 0) (ne_eqb (get_or bytes n 0) 58 other) in
       sym (pair bytes 0 n label (word_of bytes is)

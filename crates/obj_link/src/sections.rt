@@ -6,12 +6,12 @@ use asm_read::Section;
 
 /// The addresses at which the sections of an object begin.
 #[derive(Clone, Copy)]
-pub struct Begins {
+pub struct SectionAddresses {
     /// That of its instructions.
     pub text: u64,
 }
 
-impl Begins {
+impl SectionAddresses {
     /// The address at which a section begins.
     pub fn of(self, section: Section) -> u64
         ensures { result ≡ begin_in self section }
