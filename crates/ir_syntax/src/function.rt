@@ -120,4 +120,11 @@ impl Functions {
     {
         self.functions.as_slice()
     }
+
+    /// The functions in order, to be taken apart.
+    pub fn into_vec(self) -> Vec<Function>
+        ensures { result.items ≡ self }
+    {
+        self.functions
+    }
 }

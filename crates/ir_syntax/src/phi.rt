@@ -56,6 +56,13 @@ impl PhiEntries {
     {
         self.entries.as_slice()
     }
+
+    /// The entries in order, to be taken apart.
+    pub fn into_vec(self) -> Vec<PhiEntry>
+        ensures { result.items ≡ self }
+    {
+        self.entries
+    }
 }
 
 /// A phi.

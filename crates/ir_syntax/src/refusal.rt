@@ -46,6 +46,37 @@ pub enum Refusal {
         /// The line of the name.
         line: u32,
     },
+    /// Number 6: a name is defined for the second time.
+    Repeated {
+        /// The line of the first token of the later of the two items.
+        line: u32,
+    },
+    /// Number 7: an item has a name that none may have.
+    Reserved {
+        /// The name.
+        name: Bytes,
+    },
+    /// Number 8: a rule on types is broken.
+    TypeRule {
+        /// The line of the first token of what breaks it.
+        line: u32,
+    },
+    /// Number 9: some path reaches a use without passing its definition, or the blocks of a function and the entries of its
+    /// phis do not fit.
+    FlowRule {
+        /// The line of the first token of what breaks the rule.
+        line: u32,
+    },
+    /// Number 10: an alias does not come to a definition, or its offset is out of range.
+    AliasRule {
+        /// The name of the alias.
+        name: Bytes,
+    },
+    /// Number 11: a limit on what a module has is exceeded.
+    Count {
+        /// The first such limit.
+        which: Count,
+    },
     /// Number 18: the module has something that is not built yet.
     NotYet {
         /// The least line of what is not built.

@@ -6,6 +6,8 @@ use Rattle.cg_io.specs.Told.{GivesAll, TakesExactly}
 use Rattle.cg_part.specs.Linking.{IsImageOf}
 use Rattle.cg_part.specs.Text.{output_of, part_text}
 use Rattle.ir_syntax.specs.declared.module.Module.{Module}
+use Rattle.ir_syntax.specs.declared.refusal.Count.{Count}
+use Rattle.ir_syntax.specs.declared.refusal.Count.TheVariants as counts
 use Rattle.ir_syntax.specs.declared.refusal.Refusal.{Refusal}
 use Rattle.ir_syntax.specs.declared.refusal.Refusal.TheVariants as refusals
 use Rattle.ir_syntax.specs.declared.refusal.Refusal.TheVariants.{TooLong}
@@ -42,6 +44,14 @@ status_of (refuses refusal) = statuses.Refused
 status_of (compiles m) = statuses.Done
 status_of (runs command image) = statuses.Done
 
+-- what a module has too much of, as it is printed
+abbrev pub count_name : Count → List ℕ
+count_name counts.Functions = codes "Functions"
+count_name counts.OneFunction = codes "OneFunction"
+count_name counts.Instructions = codes "Instructions"
+count_name counts.Arguments = codes "Arguments"
+count_name counts.TypePlaces = codes "TypePlaces"
+
 -- a refusal as it is printed: its number, its name and its fields, a symbol as the assembly spells it
 abbrev pub refusal_text : Refusal → List ℕ
 refusal_text (refusals.TooLong taken) = codes "llc: refused 1 TooLong " ++ decimal taken
@@ -49,6 +59,12 @@ refusal_text (refusals.Lex line) = codes "llc: refused 2 Lex " ++ decimal line
 refusal_text (refusals.Unsupported line word) = codes "llc: refused 3 Unsupported " ++ decimal line ++ codes " " ++ word
 refusal_text (refusals.Form line) = codes "llc: refused 4 Form " ++ decimal line
 refusal_text (refusals.Name line) = codes "llc: refused 5 Name " ++ decimal line
+refusal_text (refusals.Repeated line) = codes "llc: refused 6 Repeated " ++ decimal line
+refusal_text (refusals.Reserved name) = codes "llc: refused 7 Reserved " ++ spelled name
+refusal_text (refusals.TypeRule line) = codes "llc: refused 8 TypeRule " ++ decimal line
+refusal_text (refusals.FlowRule line) = codes "llc: refused 9 FlowRule " ++ decimal line
+refusal_text (refusals.AliasRule name) = codes "llc: refused 10 AliasRule " ++ spelled name
+refusal_text (refusals.Count which) = codes "llc: refused 11 Count " ++ count_name which
 refusal_text refusals.NoMain = codes "llc: refused 14 NoMain"
 refusal_text refusals.BadMain = codes "llc: refused 15 BadMain"
 refusal_text (refusals.Unresolved name) = codes "llc: refused 16 Unresolved " ++ spelled name

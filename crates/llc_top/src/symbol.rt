@@ -2,20 +2,18 @@
 ghost use Rattle.std.specs.Prelude.{flat_map, OnOk, OnErr};
 ghost use Rattle.rv_isa.specs.Lines.{ended};
 ghost use Rattle.rv_isa.specs.Symbol.{escaped, spelled};
-ghost use Rattle.llc_top.specs.Outcome.{refusal_text};
 ghost use Rattle.llc_top.specs.Streams.{sink_change, TellsAll, CutOff};
 
 use crate::tell::{Untold, write_piece};
 use asm_line::is_bare;
 use cg_io::Sink;
-use ir_syntax::Refusal;
 
-/// Tells that a symbol is not resolved. It takes no memory.
-pub fn tell_unresolved<E: Sink>(err: &mut E, name: &[u8]) -> Result<(), Untold>
-    ensures all { OnOk result (TellsAll (ended (refusal_text (Refusal.Unresolved name.now))) (sink_change E.written E.faults err.old err.new)) }
-    ensures cut_off { OnErr result (CutOff (ended (refusal_text (Refusal.Unresolved name.now))) (sink_change E.written E.faults err.old err.new)) }
+/// Tells a line that ends in a symbol. It takes no memory.
+pub fn tell_symbol<E: Sink>(err: &mut E, text: &[u8], name: &[u8]) -> Result<(), Untold>
+    ensures all { OnOk result (TellsAll (ended (text.now ++ spelled name.now)) (sink_change E.written E.faults err.old err.new)) }
+    ensures cut_off { OnErr result (CutOff (ended (text.now ++ spelled name.now)) (sink_change E.written E.faults err.old err.new)) }
 {
-    write_piece(err, b"llc: refused 16 Unresolved ")?;
+    write_piece(err, text)?;
     write_symbol(err, name)?;
     write_piece(err, b"\n")?;
     Ok(())

@@ -1,13 +1,13 @@
 //! Lines on the sink for errors.
-ghost use Rattle.std.specs.Prelude.{◌≡◌, ◌≢◌, ◌++◌, decimal, OnOk, OnErr};
+ghost use Rattle.std.specs.Prelude.{◌≡◌, ◌≢◌, ◌++◌, codes, decimal, OnOk, OnErr};
 ghost use Rattle.rv_isa.specs.Lines.{ended};
-ghost use Rattle.llc_top.specs.Outcome.{refusal_text};
+ghost use Rattle.llc_top.specs.Outcome.{count_name, refusal_text};
 ghost use Rattle.llc_top.specs.Stops.{stop_text, trap_text};
 ghost use Rattle.llc_top.specs.Streams.{sink_change, TellsAll, CutOff};
 
-use crate::symbol::tell_unresolved;
+use crate::symbol::tell_symbol;
 use cg_io::{Sink, write_all};
-use ir_syntax::Refusal;
+use ir_syntax::{Count, Refusal};
 use itoa::Buffer;
 use rv_mach::{Stop, TrapKind};
 
@@ -27,12 +27,48 @@ pub fn tell_refusal<E: Sink>(err: &mut E, refusal: Refusal) -> Result<(), Untold
         Refusal::Unsupported { line, word } => tell_word(err, line, word.as_slice()),
         Refusal::Form { line } => tell_number(err, b"llc: refused 4 Form ", u64::from(line)),
         Refusal::Name { line } => tell_number(err, b"llc: refused 5 Name ", u64::from(line)),
+        Refusal::Repeated { line } => tell_number(
+            err,
+            b"llc: refused 6 Repeated ",
+            u64::from(line),
+        ),
+        Refusal::Reserved { name } => {
+            tell_symbol(err, b"llc: refused 7 Reserved ", name.as_slice())
+        }
+        Refusal::TypeRule { line } => tell_number(
+            err,
+            b"llc: refused 8 TypeRule ",
+            u64::from(line),
+        ),
+        Refusal::FlowRule { line } => tell_number(
+            err,
+            b"llc: refused 9 FlowRule ",
+            u64::from(line),
+        ),
+        Refusal::AliasRule { name } => {
+            tell_symbol(err, b"llc: refused 10 AliasRule ", name.as_slice())
+        }
+        Refusal::Count { which } => write_piece(err, count_line(which)),
         Refusal::NoMain => write_piece(err, b"llc: refused 14 NoMain\n"),
         Refusal::BadMain => write_piece(err, b"llc: refused 15 BadMain\n"),
-        Refusal::Unresolved { name } => tell_unresolved(err, name.as_slice()),
+        Refusal::Unresolved { name } => {
+            tell_symbol(err, b"llc: refused 16 Unresolved ", name.as_slice())
+        }
         Refusal::Image { bytes } => tell_number(err, b"llc: refused 17 Image ", bytes),
         Refusal::NotYet { line } => tell_number(err, b"llc: refused 18 NotYet ", u64::from(line)),
         Refusal::NoMemory => unreachable!(),
+    }
+}
+
+fn count_line(which: Count) -> &'static [u8]
+    ensures { result.now ≡ ended (codes "llc: refused 11 Count " ++ count_name which) }
+{
+    match which {
+        Count::Functions => b"llc: refused 11 Count Functions\n",
+        Count::OneFunction => b"llc: refused 11 Count OneFunction\n",
+        Count::Instructions => b"llc: refused 11 Count Instructions\n",
+        Count::Arguments => b"llc: refused 11 Count Arguments\n",
+        Count::TypePlaces => b"llc: refused 11 Count TypePlaces\n",
     }
 }
 
