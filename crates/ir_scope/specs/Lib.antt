@@ -1,0 +1,4 @@
+pub mod Globals
+pub mod Locals
+pub mod Operands
+pub mod Scalars
