@@ -1,5 +1,6 @@
 pub mod Exact
 pub mod Headline
+pub mod Messages
 pub mod Numbers
 pub mod Outcome
 pub mod Partial

@@ -44,13 +44,13 @@ status_of (refuses refusal) = statuses.Refused
 status_of (compiles m) = statuses.Done
 status_of (runs command image) = statuses.Done
 
--- what a module has too much of, as it is printed
-abbrev pub count_name : Count → List ℕ
-count_name counts.Functions = codes "Functions"
-count_name counts.OneFunction = codes "OneFunction"
-count_name counts.Instructions = codes "Instructions"
-count_name counts.Arguments = codes "Arguments"
-count_name counts.TypePlaces = codes "TypePlaces"
+-- what a module has too much of
+abbrev pub count_text : Count → List ℕ
+count_text counts.Functions = codes "llc: refused 11 Count Functions"
+count_text counts.OneFunction = codes "llc: refused 11 Count OneFunction"
+count_text counts.Instructions = codes "llc: refused 11 Count Instructions"
+count_text counts.Arguments = codes "llc: refused 11 Count Arguments"
+count_text counts.TypePlaces = codes "llc: refused 11 Count TypePlaces"
 
 -- a refusal as it is printed: its number, its name and its fields, a symbol as the assembly spells it
 abbrev pub refusal_text : Refusal → List ℕ
@@ -64,7 +64,7 @@ refusal_text (refusals.Reserved name) = codes "llc: refused 7 Reserved " ++ spel
 refusal_text (refusals.TypeRule line) = codes "llc: refused 8 TypeRule " ++ decimal line
 refusal_text (refusals.FlowRule line) = codes "llc: refused 9 FlowRule " ++ decimal line
 refusal_text (refusals.AliasRule name) = codes "llc: refused 10 AliasRule " ++ spelled name
-refusal_text (refusals.Count which) = codes "llc: refused 11 Count " ++ count_name which
+refusal_text (refusals.Count which) = count_text which
 refusal_text refusals.NoMain = codes "llc: refused 14 NoMain"
 refusal_text refusals.BadMain = codes "llc: refused 15 BadMain"
 refusal_text (refusals.Unresolved name) = codes "llc: refused 16 Unresolved " ++ spelled name

@@ -1,5 +1,5 @@
 //! Symbols on the sink for errors, spelled as in the assembly.
-ghost use Rattle.std.specs.Prelude.{flat_map, OnOk, OnErr};
+ghost use Rattle.std.specs.Prelude.{◌++◌, flat_map, OnOk, OnErr};
 ghost use Rattle.rv_isa.specs.Lines.{ended};
 ghost use Rattle.rv_isa.specs.Symbol.{escaped, spelled};
 ghost use Rattle.llc_top.specs.Streams.{sink_change, TellsAll, CutOff};

@@ -1,7 +1,8 @@
 //! Lines on the sink for errors.
-ghost use Rattle.std.specs.Prelude.{◌≡◌, ◌≢◌, ◌++◌, codes, decimal, OnOk, OnErr};
+ghost use Rattle.std.specs.Prelude.{◌≡◌, ◌≢◌, ◌++◌, decimal, OnOk, OnErr};
 ghost use Rattle.rv_isa.specs.Lines.{ended};
-ghost use Rattle.llc_top.specs.Outcome.{count_name, refusal_text};
+ghost use Rattle.llc_top.specs.Outcome.{count_text, refusal_text};
+ghost use Rattle.llc_top.specs.Messages.{message_text};
 ghost use Rattle.llc_top.specs.Stops.{stop_text, trap_text};
 ghost use Rattle.llc_top.specs.Streams.{sink_change, TellsAll, CutOff};
 
@@ -15,53 +16,80 @@ use rv_mach::{Stop, TrapKind};
 #[derive(Clone, Copy, Debug, PartialEq, Eq)]
 pub struct Untold;
 
+/// A line that tells something.
+pub(crate) enum Message<'a> {
+    /// These words alone, with the end of the line.
+    Line(&'static [u8]),
+    /// Words and a number.
+    Number(&'static [u8], u64),
+    /// Words and a symbol.
+    Symbol(&'static [u8], &'a [u8]),
+    /// A word that is not supported, with its line.
+    Unsupported(u32, &'a [u8]),
+}
+
 /// Tells a refusal: its number, its name and its fields. Where memory ran out nothing is told.
 pub fn tell_refusal<E: Sink>(err: &mut E, refusal: Refusal) -> Result<(), Untold>
     requires { refusal ≢ Refusal.NoMemory }
     ensures all { OnOk result (TellsAll (ended (refusal_text refusal)) (sink_change E.written E.faults err.old err.new)) }
     ensures cut_off { OnErr result (CutOff (ended (refusal_text refusal)) (sink_change E.written E.faults err.old err.new)) }
 {
+    tell_message(err, message_of(&refusal))
+}
+
+/// The message of a refusal.
+fn message_of(refusal: &Refusal) -> Message<'_>
+    requires { refusal.now ≢ Refusal.NoMemory }
+    ensures { message_text result ≡ ended (refusal_text refusal.now) }
+{
     match refusal {
-        Refusal::TooLong { taken } => tell_number(err, b"llc: refused 1 TooLong ", taken),
-        Refusal::Lex { line } => tell_number(err, b"llc: refused 2 Lex ", u64::from(line)),
-        Refusal::Unsupported { line, word } => tell_word(err, line, word.as_slice()),
-        Refusal::Form { line } => tell_number(err, b"llc: refused 4 Form ", u64::from(line)),
-        Refusal::Name { line } => tell_number(err, b"llc: refused 5 Name ", u64::from(line)),
-        Refusal::Repeated { line } => tell_number(
-            err,
-            b"llc: refused 6 Repeated ",
-            u64::from(line),
-        ),
+        Refusal::TooLong { taken } => Message::Number(b"llc: refused 1 TooLong ", *taken),
+        Refusal::Lex { line } => Message::Number(b"llc: refused 2 Lex ", u64::from(*line)),
+        Refusal::Unsupported { line, word } => Message::Unsupported(*line, word.as_slice()),
+        Refusal::Form { line } => Message::Number(b"llc: refused 4 Form ", u64::from(*line)),
+        Refusal::Name { line } => Message::Number(b"llc: refused 5 Name ", u64::from(*line)),
+        Refusal::Repeated { line } => {
+            Message::Number(b"llc: refused 6 Repeated ", u64::from(*line))
+        }
         Refusal::Reserved { name } => {
-            tell_symbol(err, b"llc: refused 7 Reserved ", name.as_slice())
+            Message::Symbol(b"llc: refused 7 Reserved ", name.as_slice())
         }
-        Refusal::TypeRule { line } => tell_number(
-            err,
-            b"llc: refused 8 TypeRule ",
-            u64::from(line),
-        ),
-        Refusal::FlowRule { line } => tell_number(
-            err,
-            b"llc: refused 9 FlowRule ",
-            u64::from(line),
-        ),
+        Refusal::TypeRule { line } => {
+            Message::Number(b"llc: refused 8 TypeRule ", u64::from(*line))
+        }
+        Refusal::FlowRule { line } => {
+            Message::Number(b"llc: refused 9 FlowRule ", u64::from(*line))
+        }
         Refusal::AliasRule { name } => {
-            tell_symbol(err, b"llc: refused 10 AliasRule ", name.as_slice())
+            Message::Symbol(b"llc: refused 10 AliasRule ", name.as_slice())
         }
-        Refusal::Count { which } => write_piece(err, count_line(which)),
-        Refusal::NoMain => write_piece(err, b"llc: refused 14 NoMain\n"),
-        Refusal::BadMain => write_piece(err, b"llc: refused 15 BadMain\n"),
+        Refusal::Count { which } => Message::Line(count_line(*which)),
+        Refusal::NoMain => Message::Line(b"llc: refused 14 NoMain\n"),
+        Refusal::BadMain => Message::Line(b"llc: refused 15 BadMain\n"),
         Refusal::Unresolved { name } => {
-            tell_symbol(err, b"llc: refused 16 Unresolved ", name.as_slice())
+            Message::Symbol(b"llc: refused 16 Unresolved ", name.as_slice())
         }
-        Refusal::Image { bytes } => tell_number(err, b"llc: refused 17 Image ", bytes),
-        Refusal::NotYet { line } => tell_number(err, b"llc: refused 18 NotYet ", u64::from(line)),
+        Refusal::Image { bytes } => Message::Number(b"llc: refused 17 Image ", *bytes),
+        Refusal::NotYet { line } => Message::Number(b"llc: refused 18 NotYet ", u64::from(*line)),
         Refusal::NoMemory => unreachable!(),
     }
 }
 
+/// Tells a message. It takes no memory.
+fn tell_message<E: Sink>(err: &mut E, message: Message<'_>) -> Result<(), Untold>
+    ensures all { OnOk result (TellsAll (message_text message.entry) (sink_change E.written E.faults err.old err.new)) }
+    ensures cut_off { OnErr result (CutOff (message_text message.entry) (sink_change E.written E.faults err.old err.new)) }
+{
+    match message {
+        Message::Line(line) => write_piece(err, line),
+        Message::Number(text, number) => tell_number(err, text, number),
+        Message::Symbol(text, name) => tell_symbol(err, text, name),
+        Message::Unsupported(line, word) => tell_word(err, line, word),
+    }
+}
+
 fn count_line(which: Count) -> &'static [u8]
-    ensures { result.now ≡ ended (codes "llc: refused 11 Count " ++ count_name which) }
+    ensures { result.now ≡ ended (count_text which) }
 {
     match which {
         Count::Functions => b"llc: refused 11 Count Functions\n",
