@@ -1,5 +1,5 @@
-//! Tests of `ty_core`, of types at worked values, and of `ir_check` and `ir_sizes`, on modules at each limit and just
-//! beyond it: texts, and what is told of them.
+//! Tests of `ty_core`, of types at worked values, and of the checks of modules, on modules at each limit and just beyond it:
+//! texts, and what is told of them.
 #![tactic(auto)]
 
 #[cfg(test)]
@@ -8,8 +8,7 @@ mod layout_tests;
 mod limits_tests;
 #[cfg(test)]
 mod mention_tests;
-#[cfg(test)]
-mod modules;
+pub mod modules;
 #[cfg(test)]
 mod repeated_tests;
 #[cfg(test)]

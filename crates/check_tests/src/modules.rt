@@ -4,17 +4,17 @@ use ir_syntax::{Aliases, Functions, Globals, Module, TypeDefs};
 use std::alloc::{AllocError, Global};
 
 /// A piece of a text, and how often it stands there.
-pub(crate) type Piece = (usize, &'static str);
+pub type Piece = (usize, &'static str);
 
 /// The text of these pieces.
-pub(crate) fn text_of(alloc: Global, pieces: &[Piece]) -> Result<Vec<u8>, AllocError> {
+pub fn text_of(alloc: Global, pieces: &[Piece]) -> Result<Vec<u8>, AllocError> {
     let mut text = Vec::new(alloc);
     push_pieces(&mut text, pieces)?;
     Ok(text)
 }
 
 /// Adds pieces at the end of a text.
-pub(crate) fn push_pieces(text: &mut Vec<u8>, pieces: &[Piece]) -> Result<(), AllocError> {
+pub fn push_pieces(text: &mut Vec<u8>, pieces: &[Piece]) -> Result<(), AllocError> {
     for (times, piece) in pieces {
         for _time in 0..*times {
             text.extend_from_slice(piece.as_bytes())?;
@@ -24,7 +24,7 @@ pub(crate) fn push_pieces(text: &mut Vec<u8>, pieces: &[Piece]) -> Result<(), Al
 }
 
 /// The items of a text, if it is one of the grammar.
-pub(crate) fn read_items(alloc: Global, text: &[u8]) -> Option<Entities> {
+pub fn read_items(alloc: Global, text: &[u8]) -> Option<Entities> {
     if text.len() > 16777216 {
         return None;
     }
@@ -42,7 +42,7 @@ fn add<T: Drop>(items: &mut Vec<T>, item: T) -> Result<(), AllocError> {
 
 /// The module of these items, each with its name as it is written. So the text may use a name that nothing defines,
 /// and a number that is not the next one.
-pub(crate) fn module_of(alloc: Global, items: Entities) -> Result<Module, AllocError> {
+pub fn module_of(alloc: Global, items: Entities) -> Result<Module, AllocError> {
     let mut types = Vec::new(alloc);
     let mut globals = Vec::new(alloc);
     let mut functions = Vec::new(alloc);
@@ -65,7 +65,7 @@ pub(crate) fn module_of(alloc: Global, items: Entities) -> Result<Module, AllocE
 }
 
 /// The module of a text, if it is one of the grammar.
-pub(crate) fn read(alloc: Global, text: &[u8]) -> Option<Module> {
+pub fn read(alloc: Global, text: &[u8]) -> Option<Module> {
     match read_items(alloc, text) {
         Some(items) => module_of(alloc, items).ok(),
         None => None,
@@ -73,7 +73,7 @@ pub(crate) fn read(alloc: Global, text: &[u8]) -> Option<Module> {
 }
 
 /// The module of a text of these pieces, if it is one of the grammar.
-pub(crate) fn read_pieces(alloc: Global, pieces: &[Piece]) -> Option<Module> {
+pub fn read_pieces(alloc: Global, pieces: &[Piece]) -> Option<Module> {
     match text_of(alloc, pieces) {
         Ok(text) => read(alloc, text.as_slice()),
         Err(_) => None,

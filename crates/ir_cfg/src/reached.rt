@@ -42,7 +42,14 @@ pub fn is_marked(marks: &[bool], place: usize) -> bool
 }
 
 /// The places of these blocks, counted from 0, by their labels; where several have one label, of the first.
-fn label_places<'a>(alloc: Global, blocks: &'a [Block]) -> Result<NameMap<'a, usize>, AllocError>
+///
+/// # Errors
+///
+/// [`AllocError`].
+pub fn label_places<'a>(
+    alloc: Global,
+    blocks: &'a [Block],
+) -> Result<NameMap<'a, usize>, AllocError>
     ensures { IfOk result (λ places. (name : Name) → value_of places name ≡ label_place blocks.now name) }
 {
     let mut places = NameMap::new(alloc);
@@ -53,14 +60,27 @@ fn label_places<'a>(alloc: Global, blocks: &'a [Block]) -> Result<NameMap<'a, us
 }
 
 /// So many marks, none of them set.
-fn unmarked(alloc: Global, count: usize) -> Result<Vec<bool>, AllocError>
+///
+/// # Errors
+///
+/// [`AllocError`].
+pub fn unmarked(alloc: Global, count: usize) -> Result<Vec<bool>, AllocError>
     ensures { IfOk result (λ marks. marks.items ≡ replicate count false) }
 {
     vec![in alloc; false; count]
 }
 
-/// Marks these places, and adds those that were not marked to what is to be looked at.
-fn see_all(marks: &mut Vec<bool>, todo: &mut Vec<usize>, places: &[usize]) -> Result<(), AllocError>
+/// Marks these places, and adds those that were not marked to what is to be looked at. Where there is no such place,
+/// there is nothing to do.
+///
+/// # Errors
+///
+/// [`AllocError`].
+pub fn see_all(
+    marks: &mut Vec<bool>,
+    todo: &mut Vec<usize>,
+    places: &[usize],
+) -> Result<(), AllocError>
     ensures { OnOk result (Sees marks.old.items todo.old.items places.now marks.new.items todo.new.items) }
 {
     for place in places {
@@ -69,8 +89,13 @@ fn see_all(marks: &mut Vec<bool>, todo: &mut Vec<usize>, places: &[usize]) -> Re
     Ok(())
 }
 
-/// Marks one place. Where there is no such place, there is nothing to do.
-fn see(marks: &mut Vec<bool>, todo: &mut Vec<usize>, place: usize) -> Result<(), AllocError>
+/// Marks one place, and adds it to what is to be looked at if it was not marked. Where there is no such place, there is
+/// nothing to do.
+///
+/// # Errors
+///
+/// [`AllocError`].
+pub fn see(marks: &mut Vec<bool>, todo: &mut Vec<usize>, place: usize) -> Result<(), AllocError>
     ensures { OnOk result (Sees marks.old.items todo.old.items (place ∷ []) marks.new.items todo.new.items) }
 {
     if place >= marks.len() {

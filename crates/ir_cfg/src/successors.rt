@@ -85,8 +85,12 @@ pub(crate) fn successors_at(
     }
 }
 
-/// The places that a terminator leads to, in order.
-fn successors_of(
+/// The places that a terminator leads to, in order, where `places` has those of labels; a label that it has not is left out.
+///
+/// # Errors
+///
+/// [`AllocError`].
+pub fn successors_of(
     alloc: Global,
     places: &NameMap<'_, usize>,
     term: &Term,
@@ -108,20 +112,25 @@ fn places_of(
 {
     let mut successors = Vec::new(alloc);
     for target in targets {
-        push_successor(&mut successors, places, target.label)?;
+        push_place(&mut successors, places, target.label)?;
     }
     Ok(successors)
 }
 
-fn push_successor(
-    successors: &mut Vec<usize>,
+/// Adds the place of a label, where `places` has it.
+///
+/// # Errors
+///
+/// [`AllocError`].
+pub fn push_place(
+    found: &mut Vec<usize>,
     places: &NameMap<'_, usize>,
-    target: &NameUse,
+    label: &NameUse,
 ) -> Result<(), AllocError>
-    ensures { OnOk result (successors.new.items ≡ successors.old.items ++ label_successors (value_of places.now) target.now) }
+    ensures { OnOk result (found.new.items ≡ found.old.items ++ label_successors (value_of places.now) label.now) }
 {
-    if let Some(place) = places.get(&target.name) {
-        successors.push(place)?;
+    if let Some(place) = places.get(&label.name) {
+        found.push(place)?;
     }
     Ok(())
 }

@@ -9,5 +9,5 @@ mod table;
 
 pub use extent::Extent;
 pub use rounds::table_of;
-pub use sized::{extent_of, unsized_lines};
+pub use sized::{extent_of, tree_extent_of, unsized_lines};
 pub use table::Table;

@@ -3,13 +3,14 @@ ghost use Rattle.std.specs.Prelude.{◌≡◌, IfOk, IfSome, List};
 ghost use Rattle.ir_sizes.specs.Extents.{IsExtent};
 ghost use Rattle.ir_sizes.specs.Measured.{AreExtents, IsTable, known_by, measured};
 ghost use Rattle.ir_sizes.specs.Sized.{is_sized, level_limit, unsized_lines};
+ghost use Rattle.ir_syntax.specs.Types.{tree_of};
 ghost use Rattle.ir_syntax.specs.declared.type_def.TypeDef.{TypeDef};
 
 use crate::extent::Extent;
 use crate::measured::{LEVEL_LIMIT, measured};
 use crate::rounds::table_of;
 use crate::table::Table;
-use ir_syntax::{TyText, TypeDefs, push_line_if};
+use ir_syntax::{TyText, TypeDefs, TypeTree, push_line_if};
 use std::alloc::{AllocError, Global};
 
 /// The lines, from 1, of the definitions of types that have no size: a type that stands in itself, one in which arrays
@@ -41,5 +42,14 @@ pub fn extent_of(table: &Table<'_>, ty: &TyText) -> Option<Extent>
     ensures value { result ≡ measured (known_by table.now) level_limit ty.now }
     ensures measured { IfSome result IsExtent }
 {
-    measured(table, LEVEL_LIMIT, ty.tree())
+    tree_extent_of(table, ty.tree())
+}
+
+/// The extent of a type as a tree, where it has a size by what a table knows of named types.
+pub fn tree_extent_of(table: &Table<'_>, tree: &TypeTree) -> Option<Extent>
+    requires { AreExtents table.now.extents.items }
+    ensures value { result ≡ measured (known_by table.now) level_limit (tree_of tree.now) }
+    ensures measured { IfSome result IsExtent }
+{
+    measured(table, LEVEL_LIMIT, tree)
 }

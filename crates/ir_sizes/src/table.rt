@@ -20,6 +20,13 @@ pub struct Table<'a> {
 }
 
 impl<'a> Table<'a> {
+    /// The place of the first definition of a name, counted from 0.
+    pub fn place(&self, name: &Name) -> Option<usize>
+        ensures { result ≡ value_of self.now.places name.now }
+    {
+        self.places.get(name)
+    }
+
     /// The extent of a named type.
     pub(crate) fn get(&self, name: &Name) -> Option<Extent>
         requires { AreExtents self.now.extents.items }

@@ -1,0 +1,19 @@
+//! Indices of `getelementptr` (LangRef, "'getelementptr' Instruction"): whether they are in range, and the offsets of
+//! constant ones; and the lines of what breaks a rule on operands.
+#![tactic(auto)]
+
+mod gep_lines;
+mod index;
+mod named;
+mod offset;
+mod operand_lines;
+mod operands;
+mod parts;
+mod range;
+
+pub use gep_lines::push_gep_lines;
+pub use index::{GepIndex, literal_word};
+pub use named::NamedTypes;
+pub use offset::gep_offset;
+pub use operand_lines::{OperandRule, push_operand_lines};
+pub use range::{is_in_range, parts_in_range};

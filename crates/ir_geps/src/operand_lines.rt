@@ -1,0 +1,199 @@
+//! The lines of what breaks a rule on operations and operands.
+ghost use Rattle.std.specs.Prelude.{◌≡◌, ◌++◌, Bool, IfOk, OnOk};
+ghost use Rattle.std.specs.List.{flat_map, list_any};
+ghost use Rattle.ir_geps.specs.OperandLines.{any_breaks, block_lines, body_lines, function_lines, global_lines, instr_lines, operand_lines, phi_lines, term_line, term_lines};
+ghost use Rattle.ir_syntax.specs.declared.instr.Op.{Op};
+ghost use Rattle.ir_syntax.specs.declared.operand.Operand.{Operand};
+
+use crate::operands::{Site, Sites, sites_in_init};
+use ir_syntax::{
+    Block, Blocks, Function, Global as GlobalVariable, Instr, Module, Op, Operand, Phi, Term,
+    push_line_if,
+};
+use ir_walk::Walk;
+use std::alloc::{AllocError, Global};
+
+/// A rule that an operation breaks, or an operand.
+pub trait OperandRule {
+    /// Whether an operation breaks it, apart from its operands.
+    ghost op_breaks: { Self → Op → Bool };
+
+    /// Whether an operand breaks it.
+    ghost breaks: { Self → Operand → Bool };
+
+    /// Whether an operation breaks it, apart from its operands.
+    fn op_breaks(&self, op: &Op) -> bool
+        ensures { result ≡ op_breaks self.now op.now };
+
+    /// Whether an operand breaks it.
+    fn breaks(&self, operand: &Operand) -> bool
+        ensures { result ≡ breaks self.now operand.now };
+}
+
+/// Adds the lines of the globals, instructions, phis and terminators that break a rule.
+///
+/// # Errors
+///
+/// [`AllocError`].
+pub fn push_operand_lines<R: OperandRule>(
+    alloc: Global,
+    rule: &R,
+    m: &Module,
+    lines: &mut Vec<u32>,
+) -> Result<(), AllocError>
+    ensures { OnOk result (lines.new.items ≡ lines.old.items ++ operand_lines (R.op_breaks rule.now) (R.breaks rule.now) m.now) }
+{
+    push_globals(alloc, rule, m.globals.as_slice(), lines)?;
+    push_functions(alloc, rule, m.functions.as_slice(), lines)
+}
+
+fn push_globals<R: OperandRule>(
+    alloc: Global,
+    rule: &R,
+    globals: &[GlobalVariable],
+    lines: &mut Vec<u32>,
+) -> Result<(), AllocError>
+    ensures { OnOk result (lines.new.items ≡ lines.old.items ++ flat_map (global_lines (R.breaks rule.now)) globals.now) }
+{
+    for global in globals {
+        push_global(alloc, rule, global, lines)?;
+    }
+    Ok(())
+}
+
+fn push_global<R: OperandRule>(
+    alloc: Global,
+    rule: &R,
+    global: &GlobalVariable,
+    lines: &mut Vec<u32>,
+) -> Result<(), AllocError>
+    ensures { OnOk result (lines.new.items ≡ lines.old.items ++ global_lines (R.breaks rule.now) global.now) }
+{
+    let sites = sites_in_init(alloc, &global.init)?;
+    let fault = is_any_broken(rule, sites.sites.as_slice());
+    drop(sites);
+    push_line_if(lines, fault, global.line)
+}
+
+fn push_functions<R: OperandRule>(
+    alloc: Global,
+    rule: &R,
+    functions: &[Function],
+    lines: &mut Vec<u32>,
+) -> Result<(), AllocError>
+    ensures { OnOk result (lines.new.items ≡ lines.old.items ++ flat_map (function_lines (R.op_breaks rule.now) (R.breaks rule.now)) functions.now) }
+{
+    for function in functions {
+        push_body(alloc, rule, &function.blocks, lines)?;
+    }
+    Ok(())
+}
+
+fn push_body<R: OperandRule>(
+    alloc: Global,
+    rule: &R,
+    blocks: &Option<Blocks>,
+    lines: &mut Vec<u32>,
+) -> Result<(), AllocError>
+    ensures { OnOk result (lines.new.items ≡ lines.old.items ++ body_lines (R.op_breaks rule.now) (R.breaks rule.now) blocks.now) }
+{
+    match blocks {
+        Some(blocks) => push_blocks(alloc, rule, blocks.as_slice(), lines),
+        None => Ok(()),
+    }
+}
+
+fn push_blocks<R: OperandRule>(
+    alloc: Global,
+    rule: &R,
+    blocks: &[Block],
+    lines: &mut Vec<u32>,
+) -> Result<(), AllocError>
+    ensures { OnOk result (lines.new.items ≡ lines.old.items ++ flat_map (block_lines (R.op_breaks rule.now) (R.breaks rule.now)) blocks.now) }
+{
+    for block in blocks {
+        push_block(alloc, rule, block, lines)?;
+    }
+    Ok(())
+}
+
+fn push_block<R: OperandRule>(
+    alloc: Global,
+    rule: &R,
+    block: &Block,
+    lines: &mut Vec<u32>,
+) -> Result<(), AllocError>
+    ensures { OnOk result (lines.new.items ≡ lines.old.items ++ block_lines (R.op_breaks rule.now) (R.breaks rule.now) block.now) }
+{
+    push_phis(alloc, rule, block.phis.as_slice(), lines)?;
+    push_instrs(alloc, rule, block.instrs.as_slice(), lines)?;
+    let fault = is_broken_in(alloc, rule, &block.term)?;
+    push_line_if(lines, fault, term_line(&block.term))
+}
+
+fn push_phis<R: OperandRule>(
+    alloc: Global,
+    rule: &R,
+    phis: &[Phi],
+    lines: &mut Vec<u32>,
+) -> Result<(), AllocError>
+    ensures { OnOk result (lines.new.items ≡ lines.old.items ++ flat_map (phi_lines (R.breaks rule.now)) phis.now) }
+{
+    for phi in phis {
+        let fault = is_broken_in(alloc, rule, phi)?;
+        push_line_if(lines, fault, phi.line)?;
+    }
+    Ok(())
+}
+
+fn push_instrs<R: OperandRule>(
+    alloc: Global,
+    rule: &R,
+    instrs: &[Instr],
+    lines: &mut Vec<u32>,
+) -> Result<(), AllocError>
+    ensures { OnOk result (lines.new.items ≡ lines.old.items ++ flat_map (instr_lines (R.op_breaks rule.now) (R.breaks rule.now)) instrs.now) }
+{
+    for instr in instrs {
+        let fault = is_broken_in(alloc, rule, instr)?;
+        push_line_if(lines, rule.op_breaks(&instr.op) | fault, instr.line)?;
+    }
+    Ok(())
+}
+
+/// Whether one of the operands of this breaks the rule.
+fn is_broken_in<'a, R: OperandRule, T: Walk<'a, Sites<'a>>>(
+    alloc: Global,
+    rule: &R,
+    item: &'a T,
+) -> Result<bool, AllocError>
+    ensures { IfOk result (λ broken. broken ≡ any_breaks (R.breaks rule.now) (T.parts item.now)) }
+{
+    let mut sites = Sites::new(alloc);
+    item.walk(&mut sites)?;
+    Ok(is_any_broken(rule, sites.sites.as_slice()))
+}
+
+fn is_any_broken<R: OperandRule>(rule: &R, sites: &[Site<'_>]) -> bool
+    ensures { result ≡ list_any (R.breaks rule.now) sites.now }
+{
+    let mut broken = false;
+    for site in sites {
+        broken |= rule.breaks(site.operand);
+    }
+    broken
+}
+
+/// The line of a terminator's first token.
+fn term_line(term: &Term) -> u32
+    ensures { result ≡ term_line term.now }
+{
+    match term {
+        Term::ReturnVoid { line }
+        | Term::Ret { line, .. }
+        | Term::Br { line, .. }
+        | Term::CondBr { line, .. }
+        | Term::Switch { line, .. }
+        | Term::Unreachable { line } => *line,
+    }
+}

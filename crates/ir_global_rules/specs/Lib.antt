@@ -1,0 +1,4 @@
+pub mod Fits
+pub mod GlobalLines
+pub mod Same
+pub mod Sized

@@ -1,0 +1,100 @@
+//! The lines of what breaks a rule on types in a module.
+ghost use Rattle.std.specs.Prelude.{◌≡◌, ◌++◌, OnOk};
+ghost use Rattle.std.specs.List.{flat_map, list_all};
+ghost use Rattle.ir_op_rules.specs.OpLines.{body_lines, function_lines, is_valued, op_lines, signature_fits};
+ghost use Rattle.ir_op_rules.specs.Sizes.{layout_by};
+ghost use Rattle.ir_scope.specs.Locals.{local_scalar};
+ghost use Rattle.ir_sizes.specs.Measured.{AreExtents};
+
+use crate::parts::push_body;
+use crate::scope::Scope;
+use crate::values::is_value_type;
+use ir_scope::local_scalars;
+use ir_sizes::{Table, table_of};
+use ir_syntax::{Function, Module, Param, TyText, push_line_if};
+use std::alloc::{AllocError, Global};
+
+fn is_valued(ty: &Option<TyText>) -> bool
+    ensures { result ≡ is_valued ty.now }
+{
+    match ty {
+        Some(ty) => is_value_type(ty),
+        None => true,
+    }
+}
+
+fn are_valued(params: &[Param]) -> bool
+    ensures { result ≡ list_all (λ p. is_valued p.ty) params.now }
+{
+    params.iter().all(|param| is_valued(&param.ty))
+}
+
+/// Whether the result and the parameters of a function are values.
+fn signature_fits(function: &Function) -> bool
+    ensures { result ≡ signature_fits function.now }
+{
+    is_valued(&function.result) & are_valued(function.params.as_slice())
+}
+
+/// Adds the lines of the phis, instructions and terminators of a function that break a rule.
+fn push_parts(
+    alloc: Global,
+    table: &Table<'_>,
+    lines: &mut Vec<u32>,
+    function: &Function,
+) -> Result<(), AllocError>
+    requires { AreExtents table.now.extents.items }
+    ensures { OnOk result (lines.new.items
+        ≡ lines.old.items ++ body_lines (local_scalar function.now) (layout_by table.now) function.now.result function.now.blocks) }
+{
+    let locals = local_scalars(alloc, function)?;
+    let scope = Scope {
+        locals: &locals,
+        table,
+        returned: &function.result,
+    };
+    push_body(alloc, &scope, lines, &function.blocks)
+}
+
+fn push_function(
+    alloc: Global,
+    table: &Table<'_>,
+    lines: &mut Vec<u32>,
+    function: &Function,
+) -> Result<(), AllocError>
+    requires { AreExtents table.now.extents.items }
+    ensures { OnOk result (lines.new.items ≡ lines.old.items ++ function_lines (layout_by table.now) function.now) }
+{
+    push_line_if(lines, !signature_fits(function), function.line)?;
+    push_parts(alloc, table, lines, function)
+}
+
+fn push_functions(
+    alloc: Global,
+    table: &Table<'_>,
+    lines: &mut Vec<u32>,
+    functions: &[Function],
+) -> Result<(), AllocError>
+    requires { AreExtents table.now.extents.items }
+    ensures { OnOk result (lines.new.items ≡ lines.old.items ++ flat_map (function_lines (layout_by table.now)) functions.now) }
+{
+    for function in functions {
+        push_function(alloc, table, lines, function)?;
+    }
+    Ok(())
+}
+
+/// Adds the lines, from 1, of what breaks a rule on types, in order: of a function whose result or a parameter is no value,
+/// and of the phis, instructions and terminators of all blocks, once for each kind of rule. They state their types, operands
+/// and alignments (LangRef, "Instruction Reference"); the types that they write have sizes; an `alloca` takes at most
+/// 4,294,967,295 bytes; and the values of a `switch` differ. Of a call only the types have to have sizes.
+///
+/// # Errors
+///
+/// [`AllocError`].
+pub fn push_op_lines(alloc: Global, m: &Module, lines: &mut Vec<u32>) -> Result<(), AllocError>
+    ensures { OnOk result (lines.new.items ≡ lines.old.items ++ op_lines m.now) }
+{
+    let table = table_of(alloc, m.types.as_slice())?;
+    push_functions(alloc, &table, lines, m.functions.as_slice())
+}

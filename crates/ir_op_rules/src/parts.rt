@@ -1,0 +1,143 @@
+//! The lines of the parts of a function that break a rule on types.
+ghost use Rattle.std.specs.Prelude.{◌≡◌, ◌++◌, OnOk};
+ghost use Rattle.std.specs.List.{flat_map};
+ghost use Rattle.ir_ident.specs.NameMaps.{value_of};
+ghost use Rattle.ir_op_rules.specs.OpLines.{block_lines, body_lines, instr_lines, phi_lines, term_lines};
+ghost use Rattle.ir_op_rules.specs.Sizes.{layout_by};
+ghost use Rattle.ir_sizes.specs.Measured.{AreExtents};
+
+use crate::control::{phi_fits, term_fits, term_line};
+use crate::ops::instr_fits;
+use crate::scope::Scope;
+use crate::sizes::{are_sized, has_sizes};
+use crate::switches::cases_differ;
+use ir_syntax::{Block, Blocks, Instr, Phi, Term, push_line_if};
+use std::alloc::{AllocError, Global};
+
+fn push_phi(
+    alloc: Global,
+    scope: &Scope<'_>,
+    lines: &mut Vec<u32>,
+    phi: &Phi,
+) -> Result<(), AllocError>
+    requires { AreExtents scope.now.table.now.extents.items }
+    ensures { OnOk result (lines.new.items ≡ lines.old.items ++ phi_lines (value_of scope.now.locals.now) (layout_by scope.now.table.now) phi.now) }
+{
+    push_line_if(lines, !phi_fits(scope.locals, phi), phi.line)?;
+    let sized = are_sized(alloc, scope.table, phi)?;
+    push_line_if(lines, !sized, phi.line)
+}
+
+fn push_phis(
+    alloc: Global,
+    scope: &Scope<'_>,
+    lines: &mut Vec<u32>,
+    phis: &[Phi],
+) -> Result<(), AllocError>
+    requires { AreExtents scope.now.table.now.extents.items }
+    ensures { OnOk result (lines.new.items ≡ lines.old.items ++ flat_map (phi_lines (value_of scope.now.locals.now) (layout_by scope.now.table.now)) phis.now) }
+{
+    for phi in phis {
+        push_phi(alloc, scope, lines, phi)?;
+    }
+    Ok(())
+}
+
+fn push_instr(
+    alloc: Global,
+    scope: &Scope<'_>,
+    lines: &mut Vec<u32>,
+    instr: &Instr,
+) -> Result<(), AllocError>
+    requires { AreExtents scope.now.table.now.extents.items }
+    ensures { OnOk result (lines.new.items ≡ lines.old.items ++ instr_lines (value_of scope.now.locals.now) (layout_by scope.now.table.now) instr.now) }
+{
+    push_line_if(lines, !instr_fits(scope.locals, instr), instr.line)?;
+    let sized = has_sizes(alloc, scope.table, &instr.op)?;
+    push_line_if(lines, !sized, instr.line)
+}
+
+fn push_instrs(
+    alloc: Global,
+    scope: &Scope<'_>,
+    lines: &mut Vec<u32>,
+    instrs: &[Instr],
+) -> Result<(), AllocError>
+    requires { AreExtents scope.now.table.now.extents.items }
+    ensures { OnOk result (lines.new.items ≡ lines.old.items ++ flat_map (instr_lines (value_of scope.now.locals.now) (layout_by scope.now.table.now)) instrs.now) }
+{
+    for instr in instrs {
+        push_instr(alloc, scope, lines, instr)?;
+    }
+    Ok(())
+}
+
+fn push_term(
+    alloc: Global,
+    scope: &Scope<'_>,
+    lines: &mut Vec<u32>,
+    term: &Term,
+) -> Result<(), AllocError>
+    requires { AreExtents scope.now.table.now.extents.items }
+    ensures { OnOk result (lines.new.items
+        ≡ lines.old.items ++ term_lines (value_of scope.now.locals.now) (layout_by scope.now.table.now) scope.now.returned.now term.now) }
+{
+    let line = term_line(term);
+    push_line_if(lines, !term_fits(scope.locals, scope.returned, term), line)?;
+    let differ = cases_differ(alloc, term)?;
+    push_line_if(lines, !differ, line)?;
+    let sized = are_sized(alloc, scope.table, term)?;
+    push_line_if(lines, !sized, line)
+}
+
+fn push_block(
+    alloc: Global,
+    scope: &Scope<'_>,
+    lines: &mut Vec<u32>,
+    block: &Block,
+) -> Result<(), AllocError>
+    requires { AreExtents scope.now.table.now.extents.items }
+    ensures { OnOk result (lines.new.items
+        ≡ lines.old.items ++ block_lines (value_of scope.now.locals.now) (layout_by scope.now.table.now) scope.now.returned.now block.now) }
+{
+    push_phis(alloc, scope, lines, block.phis.as_slice())?;
+    push_instrs(alloc, scope, lines, block.instrs.as_slice())?;
+    push_term(alloc, scope, lines, &block.term)
+}
+
+fn push_blocks(
+    alloc: Global,
+    scope: &Scope<'_>,
+    lines: &mut Vec<u32>,
+    blocks: &[Block],
+) -> Result<(), AllocError>
+    requires { AreExtents scope.now.table.now.extents.items }
+    ensures { OnOk result (lines.new.items
+        ≡ lines.old.items ++ flat_map (block_lines (value_of scope.now.locals.now) (layout_by scope.now.table.now) scope.now.returned.now) blocks.now) }
+{
+    for block in blocks {
+        push_block(alloc, scope, lines, block)?;
+    }
+    Ok(())
+}
+
+/// Adds the lines, from 1, of the phis, instructions and terminators of a function that break a rule, in order.
+///
+/// # Errors
+///
+/// [`AllocError`].
+pub(crate) fn push_body(
+    alloc: Global,
+    scope: &Scope<'_>,
+    lines: &mut Vec<u32>,
+    blocks: &Option<Blocks>,
+) -> Result<(), AllocError>
+    requires { AreExtents scope.now.table.now.extents.items }
+    ensures { OnOk result (lines.new.items
+        ≡ lines.old.items ++ body_lines (value_of scope.now.locals.now) (layout_by scope.now.table.now) scope.now.returned.now blocks.now) }
+{
+    match blocks {
+        Some(blocks) => push_blocks(alloc, scope, lines, blocks.as_slice()),
+        None => Ok(()),
+    }
+}

@@ -1,0 +1,129 @@
+//! Sizes of the types that instructions write, and of what an `alloca` gives (LangRef, "Data Layout" and "'alloca' Instruction").
+ghost use Rattle.std.specs.Prelude.{◌≡◌, ◌≤◌, IfOk, IfSome, is_some, nat_le};
+ghost use Rattle.std.specs.List.{list_all};
+ghost use Rattle.ir_op_rules.specs.Sizes.{alloca_size, are_sized, count_of, has_sizes, is_small_alloca, is_within, layout_by};
+ghost use Rattle.ir_sizes.specs.Measured.{AreExtents};
+ghost use Rattle.ty_core.specs.Size.{IsAlign, rounded, size_limit};
+
+use crate::literals::{width_of, wrapped};
+use crate::written::{Written, WrittenTypes};
+use ir_sizes::{Table, extent_of};
+use ir_syntax::{Op, TyText, TypedLiteral};
+use ir_walk::Walk;
+use std::alloc::{AllocError, Global};
+use ty_core::Layout;
+
+/// The most bytes that an `alloca` may take.
+const SIZE_LIMIT: u128 = 0xffff_ffff;
+
+/// The layout of a type that has a size.
+fn layout_by(table: &Table<'_>, ty: &TyText) -> Option<Layout>
+    requires { AreExtents table.now.extents.items }
+    ensures value { result ≡ layout_by table.now ty.now }
+    ensures small { IfSome result (λ layout. layout.size ≤ size_limit) }
+    ensures aligned { IfSome result (λ layout. IsAlign layout.align) }
+{
+    let extent = extent_of(table, ty)?;
+    Some(extent.layout)
+}
+
+fn is_sized(table: &Table<'_>, ty: &TyText) -> bool
+    requires { AreExtents table.now.extents.items }
+    ensures { result ≡ is_some (layout_by table.now ty.now) }
+{
+    layout_by(table, ty).is_some()
+}
+
+fn all_sized(table: &Table<'_>, types: &[Written<'_>]) -> bool
+    requires { AreExtents table.now.extents.items }
+    ensures { result ≡ list_all (λ ty. is_some (layout_by table.now ty)) types.now }
+{
+    types.iter().all(|written| is_sized(table, written.ty))
+}
+
+/// Whether all types have a size that a part of a function writes.
+///
+/// # Errors
+///
+/// [`AllocError`].
+pub(crate) fn are_sized<'a, T: Walk<'a, WrittenTypes<'a>>>(
+    alloc: Global,
+    table: &Table<'_>,
+    item: &'a T,
+) -> Result<bool, AllocError>
+    requires { AreExtents table.now.extents.items }
+    ensures { IfOk result (λ sized. sized ≡ are_sized (layout_by table.now) (T.parts item.now)) }
+{
+    let mut written = WrittenTypes::new(alloc);
+    item.walk(&mut written)?;
+    Ok(all_sized(table, written.types.as_slice()))
+}
+
+/// The number of elements of an `alloca`; none where its type is not one of integers.
+fn count_of(count: &Option<TypedLiteral>) -> Option<u128>
+    ensures { result ≡ count_of count.now }
+{
+    match count {
+        Some(count) => {
+            let bits = width_of(&count.ty)?;
+            Some(wrapped(bits, count.value))
+        }
+        None => Some(1),
+    }
+}
+
+/// The bytes that each of several elements of a layout takes.
+fn stride_of(each: Layout) -> u64
+    requires small { each.size ≤ size_limit }
+    requires aligned { IsAlign each.align }
+    ensures value { result ≡ rounded each.size each.align }
+{
+    each.size.div_ceil(each.align) * each.align
+}
+
+/// Whether so many elements of a layout take few enough bytes.
+fn is_small(each: Layout, count: u128) -> bool
+    requires small { each.size ≤ size_limit }
+    requires aligned { IsAlign each.align }
+    ensures { result ≡ nat_le (alloca_size each count) size_limit }
+{
+    match count.checked_mul(u128::from(stride_of(each))) {
+        Some(size) => size <= SIZE_LIMIT,
+        None => false,
+    }
+}
+
+fn is_small_alloca(each: Option<Layout>, count: Option<u128>) -> bool
+    requires small { IfSome each (λ layout. layout.size ≤ size_limit) }
+    requires aligned { IfSome each (λ layout. IsAlign layout.align) }
+    ensures { result ≡ is_small_alloca each count }
+{
+    match (each, count) {
+        (Some(each), Some(count)) => is_small(each, count),
+        (Some(_), None) | (None, _) => false,
+    }
+}
+
+/// Whether an operation takes few enough bytes where it is an `alloca`.
+fn is_within(table: &Table<'_>, op: &Op) -> bool
+    requires { AreExtents table.now.extents.items }
+    ensures { result ≡ is_within (layout_by table.now) op.now }
+{
+    match op {
+        Op::Alloca { ty, count, .. } => is_small_alloca(layout_by(table, ty), count_of(count)),
+        _ => true,
+    }
+}
+
+/// Whether all types have a size that an operation writes, and what it gives where it is an `alloca`.
+///
+/// # Errors
+///
+/// [`AllocError`].
+pub(crate) fn has_sizes(alloc: Global, table: &Table<'_>, op: &Op) -> Result<bool, AllocError>
+    requires { AreExtents table.now.extents.items }
+    ensures { IfOk result (λ sized. sized ≡ has_sizes (layout_by table.now) op.now) }
+{
+    let sized = are_sized(alloc, table, op)?;
+    Ok(sized & is_within(table, op))
+}

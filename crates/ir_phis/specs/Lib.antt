@@ -1,0 +1,5 @@
+pub mod Entries
+pub mod Predecessors
+pub mod Rises
+pub mod Values
+pub mod Wrong
