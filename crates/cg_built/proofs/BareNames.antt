@@ -2,9 +2,12 @@
 use Rattle.std.proofs.Common.{◌≡◌, ◌++◌, ◌∷◌, [], ℕ, List, true, false, cond, not, ◌&&◌, refl, ap, sym}
 use Rattle.std.specs.List.{flat_map, list_all}
 use Rattle.std.proofs.lemmas.Bool.{and_from, and_parts, not-true}
-use Rattle.ir_check.specs.Reserved.{is_reserved}
+use Rattle.ir_naming.specs.Reserved.{is_reserved}
 use Rattle.rv_isa.specs.Symbol.{escaped, is_bare, is_digit, is_symbol_byte, spelled}
 use Rattle.cg_built.specs.Built.{is_built_name}
+
+pub built_name : (name : List ℕ) → is_bare name ≡ true → is_reserved name ≡ false → is_built_name name ≡ true
+built_name name bare free = and_from (is_bare name) (not (is_reserved name)) bare (ap not free)
 
 pub name_is_bare : (name : List ℕ) → is_built_name name ≡ true → is_bare name ≡ true
 name_is_bare name built = (and_parts (is_bare name) (not (is_reserved name)) built).0

@@ -19,9 +19,12 @@ use Rattle.ir_syntax.specs.declared.operand.Operand.{Operand}
 use Rattle.ir_syntax.specs.declared.operand.Operand.TheVariants.{Local, Int}
 use Rattle.ir_syntax.specs.declared.term.Term.{Term}
 use Rattle.ir_syntax.specs.declared.term.Term.TheVariants.{Ret}
+use Rattle.ir_naming.specs.Reserved.{is_reserved}
 use Rattle.rv_isa.specs.Encoding.{IsSigned12}
-use Rattle.cg_built.specs.Built.{GivesType, IsBuiltBody, IsBuiltFunction, IsBuiltOperand, IsBuiltTerm, IsBuiltType, IsTypedBody, is_built_name}
+use Rattle.rv_isa.specs.Symbol.{is_bare}
+use Rattle.cg_built.specs.Built.{GivesType, IsBuiltBody, IsBuiltFunction, IsBuiltOperand, IsBuiltTerm, IsBuiltType, IsTypedBody}
 use Rattle.cg_built.specs.Unbuilt.{bits_of, is_built_body, is_built_head, is_built_operand, is_built_term, is_default, is_external, is_empty, is_32_or_64}
+use Rattle.cg_built.proofs.BareNames.{built_name}
 
 external : (l : Linkage) → is_external l ≡ true → l ≡ External
 external External passes = refl
@@ -99,7 +102,7 @@ body_built f first (next ∷ more) word is passes = absurd (cc)
 
 -- what the parts of a head that passes are
 record Heading (f : Function) : Type 0 where
-  name : is_built_name (name_bytes f.name) ≡ true
+  name : is_bare (name_bytes f.name) ≡ true
   linkage : is_external f.linkage ≡ true
   visibility : is_default f.visibility ≡ true
   word : is_32_or_64 (bits_of f.result) ≡ true
@@ -111,7 +114,7 @@ heading f passes =
     let count = and_parts _ (nat_le (length f.params) 8) passes in
     let types = and_parts _ (list_all (λ p. bits_of p.ty == bits_of f.result) f.params) count.0 in
     let word = and_parts _ (is_32_or_64 (bits_of f.result)) types.0 in
-    let name = and_parts _ (is_built_name (name_bytes f.name)) word.0 in
+    let name = and_parts _ (is_bare (name_bytes f.name)) word.0 in
     let seen = and_parts (is_external f.linkage) (is_default f.visibility) name.0 in
     record {
       name = name.1;
@@ -122,15 +125,15 @@ heading f passes =
       arguments = count.1;
     }
 
-pub function_built : (f : Function) (first : Block) (more : List Block) → f.blocks ≡ Some (first ∷ more) → is_built_head f ≡ true →
-    is_built_body f first more ≡ true → IsBuiltFunction f
-function_built f first more blocks head body =
+pub function_built : (f : Function) (first : Block) (more : List Block) → f.blocks ≡ Some (first ∷ more) → is_reserved (name_bytes f.name) ≡ false →
+    is_built_head f ≡ true → is_built_body f first more ≡ true → IsBuiltFunction f
+function_built f first more blocks free head body =
     let bits : ℕ = bits_of f.result in
     let parts = heading f head in
     let result : f.result ≡ Some (int bits) = word_type f.result bits parts.word (eq-eqb bits bits refl) in
     let ending = body_built f first more parts.word result body in
     record {
-      name = parts.name;
+      name = built_name (name_bytes f.name) parts.name free;
       linkage = external f.linkage parts.linkage;
       visibility = default f.visibility parts.visibility;
       result = subst IsBuiltType (sym result) (built_type bits parts.word);

@@ -12,7 +12,7 @@ use Rattle.ir_syntax.specs.declared.function.Function.{Function}
 use Rattle.ir_syntax.specs.declared.function.Param.{Param}
 use Rattle.ir_syntax.specs.declared.linkage.Linkage.TheVariants.{External}
 use Rattle.ir_syntax.specs.declared.linkage.Visibility.TheVariants.{Default}
-use Rattle.ir_check.specs.Reserved.{is_reserved}
+use Rattle.ir_naming.specs.Reserved.{is_reserved}
 use Rattle.rv_isa.specs.Encoding.{IsSigned12}
 use Rattle.rv_isa.specs.Symbol.{is_bare}
 use Rattle.cg_built.specs.Params.{place_of}

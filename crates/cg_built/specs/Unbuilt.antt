@@ -1,10 +1,9 @@
 -- What of a module is not built today, by its lines.
 use Rattle.std.specs.Prelude.{◌≡◌, ℕ, ◌&&◌, ◌||◌, ◌==◌, Bool, true, false, not, nat_le, is_some, min, Option, None, Some, List, [], ◌∷◌, ◌++◌, length, map, if◌then◌else◌}
 use Rattle.std.specs.List.{flat_map, list_all, reduce}
+use Rattle.ir_check.specs.Checks.{IsChecked}
 use Rattle.ir_check.specs.Limits.{exceeded_limit}
-use Rattle.ir_check.specs.Repeated.{repeated_lines}
 use Rattle.ir_syntax.specs.Lines.{line_if}
-use Rattle.ir_check.specs.Reserved.{is_label_name}
 use Rattle.ir_check.specs.Signatures.{is_declarable}
 use Rattle.ir_sizes.specs.Sized.{unsized_lines}
 use Rattle.ir_ident.specs.Names.{name_bytes}
@@ -22,7 +21,7 @@ use Rattle.ir_syntax.specs.declared.operand.Operand.{Operand}
 use Rattle.ir_syntax.specs.declared.operand.Operand.TheVariants.{Local, Int}
 use Rattle.ir_syntax.specs.declared.term.Term.{Term}
 use Rattle.ir_syntax.specs.declared.term.Term.TheVariants.{Ret}
-use Rattle.cg_built.specs.Built.{is_built_name}
+use Rattle.rv_isa.specs.Symbol.{is_bare}
 use Rattle.cg_built.specs.Params.{place_of}
 
 abbrev pub is_external : Linkage → Bool
@@ -45,7 +44,7 @@ is_32_or_64 bits = bits == 32 || bits == 64
 -- the result, `i32` or `i64`
 abbrev pub is_built_head : Function → Bool
 is_built_head f =
-    is_external f.linkage && is_default f.visibility && is_built_name (name_bytes f.name) && is_32_or_64 (bits_of f.result)
+    is_external f.linkage && is_default f.visibility && is_bare (name_bytes f.name) && is_32_or_64 (bits_of f.result)
     && list_all (λ p. bits_of p.ty == bits_of f.result) f.params && nat_le (length f.params) 8
 
 -- a number from -2048 to 2047
@@ -76,7 +75,7 @@ is_built_body f first more = is_empty more && is_built_block f first
 
 -- the lines of a function that is not built: that of its `define` or `declare`, and that of its first block
 abbrev pub unbuilt_by : Function → Option (List Block) → List ℕ
-unbuilt_by f None = line_if (is_label_name (name_bytes f.name) || not (is_declarable f)) f.line
+unbuilt_by f None = line_if (not (is_declarable f)) f.line
 unbuilt_by f (Some []) = f.line ∷ []
 unbuilt_by f (Some (first ∷ more)) = line_if (not (is_built_head f)) f.line ++ line_if (not (is_built_body f first more)) first.line
 
@@ -88,17 +87,18 @@ abbrev pub item_lines : Module → List ℕ
 item_lines m =
     map (λ t. t.line) m.types ++ (map (λ g. g.line) m.globals ++ (map (λ f. f.line) m.functions ++ map (λ a. a.line) m.aliases))
 
--- the lines of what is not built: variables and aliases, functions of another form, types without a size, and names
--- that are defined again; where the module exceeds a limit, all of it
+-- the lines of what is not built: variables and aliases, functions of another form, and types without a size; where the
+-- module exceeds a limit, all of it
 abbrev pub unbuilt_lines : Module → List ℕ
 unbuilt_lines m =
     map (λ g. g.line) m.globals ++ (map (λ a. a.line) m.aliases ++ (flat_map unbuilt_in m.functions
-    ++ (unsized_lines m.types ++ (repeated_lines m ++ (if is_some (exceeded_limit m) then item_lines m else [])))))
+    ++ (unsized_lines m.types ++ (if is_some (exceeded_limit m) then item_lines m else []))))
 
 -- the first of these lines; none where all is built
 abbrev pub first_unbuilt : Module → Option ℕ
 first_unbuilt m = reduce min (unbuilt_lines m)
 
--- a module of which all is built
-abbrev pub IsBuilt : Module → Type 0
-IsBuilt m = first_unbuilt m ≡ None
+-- a module that passed the checks, and of which all is built
+pub record IsBuilt (m : Module) : Type 0 where
+  pub checked : IsChecked m
+  pub built : first_unbuilt m ≡ None

@@ -1,6 +1,5 @@
 //! What of a module is not built.
-ghost use Rattle.std.specs.Prelude.{◌≡◌, ◌++◌, [], IfOk, OnOk, is_some, min, if◌then◌else◌};
-ghost use Rattle.std.specs.List.{reduce};
+ghost use Rattle.std.specs.Prelude.{◌≡◌, ◌++◌, [], IfOk, OnOk, is_some, if◌then◌else◌};
 ghost use Rattle.ir_check.specs.Limits.{exceeded_limit};
 ghost use Rattle.cg_built.specs.Unbuilt.{first_unbuilt, item_lines, unbuilt_lines};
 
@@ -8,7 +7,7 @@ mod body;
 mod head;
 mod lines;
 
-use ir_check::{exceeded_limit, repeated_lines};
+use ir_check::{Checked, exceeded_limit, least_line};
 use ir_sizes::unsized_lines;
 use ir_syntax::Module;
 use lines::{push_aliases, push_functions, push_types, push_unbuilt, push_variables};
@@ -17,19 +16,16 @@ use std::alloc::{AllocError, Global};
 /// The first line, from 1, of what is not built yet; none exactly where all is built.
 ///
 /// Not built are variables and aliases; functions other than those that `program_of` takes; declared functions of types
-/// other than scalars; types without a size; and names that are defined a second time. Of a module that exceeds a limit
-/// nothing is built.
-pub fn unbuilt(alloc: Global, m: &Module) -> Result<Option<u32>, AllocError>
+/// other than scalars; and types without a size. Of a module that exceeds a limit nothing is built.
+///
+/// # Errors
+///
+/// [`AllocError`].
+pub fn unbuilt(alloc: Global, m: &Checked) -> Result<Option<u32>, AllocError>
     ensures { IfOk result (λ line. line ≡ first_unbuilt m.now) }
 {
-    let lines = unbuilt_lines(alloc, m)?;
-    Ok(least(&lines))
-}
-
-fn least(lines: &[u32]) -> Option<u32>
-    ensures { result ≡ reduce min lines.now }
-{
-    lines.iter().copied().min()
+    let lines = unbuilt_lines(alloc, m.module())?;
+    Ok(least_line(lines.as_slice()))
 }
 
 fn unbuilt_lines(alloc: Global, m: &Module) -> Result<Vec<u32>, AllocError>
@@ -40,7 +36,6 @@ fn unbuilt_lines(alloc: Global, m: &Module) -> Result<Vec<u32>, AllocError>
     push_aliases(&mut lines, m.aliases.as_slice())?;
     push_unbuilt(&mut lines, m.functions.as_slice())?;
     lines.extend_from_slice(&unsized_lines(alloc, &m.types)?)?;
-    lines.extend_from_slice(&repeated_lines(alloc, m)?)?;
     push_if_exceeded(alloc, &mut lines, m)?;
     Ok(lines)
 }

@@ -5,9 +5,7 @@ mod built;
 mod linkage;
 mod params;
 mod start;
-mod symbol;
 
 pub use built::unbuilt;
 pub use params::place_among;
 pub use start::{defines_main, has_main};
-pub use symbol::bytes_of;

@@ -4,8 +4,8 @@ ghost use Rattle.ir_check.specs.Signatures.{takes_none};
 ghost use Rattle.cg_built.specs.Main.{defines_main, fits_main, has_main, is_main, is_ptr, takes_words};
 
 use crate::linkage::is_external;
-use crate::symbol::bytes_of;
 use ir_check::is_i32;
+use ir_naming::bytes_of;
 use ir_syntax::{Function, Module, Param, TyText, TypeTree};
 
 /// Whether a `main` is defined that other modules see.

@@ -5,7 +5,7 @@ use Rattle.std.specs.Str.{bytes_eq}
 use Rattle.std.proofs.lemmas.List.Elements.{recursion_from_All}
 use Rattle.std.proofs.lemmas.Slice.Eq.{bytes_eq-Decides}
 use Rattle.asm_read.specs.declared.object.ObjectSymbol.{ObjectSymbol}
-use Rattle.ir_check.specs.Reserved.{is_reserved}
+use Rattle.ir_naming.specs.Reserved.{is_reserved}
 use Rattle.ir_syntax.specs.declared.function.Function.{Function}
 use Rattle.ir_syntax.specs.declared.module.Module.{Module}
 use Rattle.obj_link.specs.Names.{is_global, duplicates}

@@ -5,7 +5,7 @@ use Rattle.std.specs.List.{list_all, starts_with}
 use Rattle.std.proofs.lemmas.Bool.{and_parts, both_ways, or_parts}
 use Rattle.std.proofs.lemmas.Bool.Decides.{nat_tests}
 use Rattle.std.proofs.lemmas.List.Elements.{All-cons, All-nil}
-use Rattle.ir_check.specs.Reserved.{begins_digit, is_label_name, is_reserved}
+use Rattle.ir_naming.specs.Reserved.{begins_digit, is_label_name, is_reserved}
 use Rattle.rv_isa.specs.Symbol.{IsLabel, IsSymbol, is_digit, is_number, is_symbol_byte}
 use Rattle.cg_built.specs.Built.{is_built_name}
 use Rattle.cg_built.proofs.BareNames.{bare_bytes, name_is_bare, name_not_reserved}

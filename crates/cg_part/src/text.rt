@@ -10,7 +10,7 @@ ghost use Rattle.cg_part.specs.Text.{declared_symbols, defined_symbols, item_of,
 
 use crate::code::code_of;
 use asm_print::push_item;
-use cg_built::bytes_of;
+use ir_naming::bytes_of;
 use ir_syntax::{Function, Module};
 use std::alloc::{AllocError, Global};
 

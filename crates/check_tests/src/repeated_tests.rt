@@ -1,6 +1,6 @@
 //! Names that are defined twice, in small modules.
 use crate::modules::{Piece, read_pieces};
-use ir_check::repeated_lines;
+use ir_naming::{item_names, repeated_lines};
 use ir_syntax::Module;
 use std::alloc::Global;
 
@@ -134,7 +134,10 @@ entry:
 
 /// Whether a module defines names again at these lines.
 fn repeats_at(alloc: Global, module: &Module, lines: &[u32]) -> bool {
-    match repeated_lines(alloc, module) {
+    let Ok(items) = item_names(alloc, module) else {
+        return false;
+    };
+    match repeated_lines(alloc, module, items.as_slice()) {
         Ok(found) => found.as_slice() == lines,
         Err(_) => false,
     }

@@ -1,2 +1,2 @@
-pub mod RepeatedLemmas
+pub mod OneAnswer
 pub mod SizeLemmas

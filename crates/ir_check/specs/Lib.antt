@@ -1,4 +1,3 @@
+pub mod Checks
 pub mod Limits
-pub mod Repeated
-pub mod Reserved
 pub mod Signatures

@@ -1,14 +1,13 @@
-//! Checks of a module of textual LLVM IR (LLVM Language Reference Manual): names that are defined twice or that
-//! nothing may have, types that have no size, types of declared functions, and limits on what a module has.
+//! Checks of a module of textual LLVM IR (LLVM Language Reference Manual): a module that keeps the rules on names, types of
+//! declared functions, and limits on what a module has.
 #![tactic(auto)]
 
-mod defined;
+mod checked;
+mod checking;
 mod limits;
-mod repeated;
-mod reserved;
 mod signatures;
 
+pub use checked::Checked;
+pub use checking::{check, least_line};
 pub use limits::exceeded_limit;
-pub use repeated::repeated_lines;
-pub use reserved::{is_label_name, is_reserved};
 pub use signatures::{is_declarable, is_i32};

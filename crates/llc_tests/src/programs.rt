@@ -3,6 +3,7 @@ ghost use Rattle.cg_built.specs.Unbuilt.{IsBuilt};
 
 use cg_built::unbuilt;
 use cg_part::{program_of, text_of};
+use ir_check::{Checked, check};
 use ir_read::read_module;
 use ir_syntax::Module;
 use obj_link::{Image, Unlinked};
@@ -108,10 +109,19 @@ fn has_image(alloc: Global, m: &Module, wanted: Option<&[u8]>) -> bool
 }
 
 /// Whether a module is built, and has this text and this image.
-fn is_built(alloc: Global, m: &Module, text: &str, image: Option<&[u8]>) -> bool {
-    match unbuilt(alloc, m) {
+fn is_built(alloc: Global, checked: &Checked, text: &str, image: Option<&[u8]>) -> bool {
+    let m = checked.module();
+    match unbuilt(alloc, checked) {
         Ok(None) => has_text(alloc, m, text) & has_image(alloc, m, image),
         _ => false,
+    }
+}
+
+/// Whether a module passes the checks, is built, and has this text and this image.
+fn is_checked(alloc: Global, m: Module, text: &str, image: Option<&[u8]>) -> bool {
+    match check(alloc, m) {
+        Ok(checked) => is_built(alloc, &checked, text, image),
+        Err(_) => false,
     }
 }
 
@@ -121,7 +131,7 @@ fn is_program(alloc: Global, source: &[u8], text: &str, image: Option<&[u8]>) ->
         return false;
     }
     match read_module(alloc, source) {
-        Ok(m) => is_built(alloc, &m, text, image),
+        Ok(m) => is_checked(alloc, m, text, image),
         Err(_) => false,
     }
 }

@@ -6,6 +6,9 @@ use std::alloc::Global;
 /// The first line is not built yet.
 const AT_1: &str = "llc: refused 18 NotYet 1\n";
 
+/// The second line defines a name again.
+const REPEATED_2: &str = "llc: refused 6 Repeated 2\n";
+
 /// The second line is the first that is not built yet.
 const AT_2: &str = "llc: refused 18 NotYet 2\n";
 
@@ -48,6 +51,57 @@ const REFUSED: &[Row] = &[
         "%4294967296 = type { i8 }\n%a = type { %4294967297 }\n",
         "llc: refused 5 Name 2\n",
     ),
+    // Names that are defined twice.
+    (
+        "define i64 @a() {\n  ret i64 0\n}\ndefine i64 @a() {\n  ret i64 0\n}\n",
+        "llc: refused 6 Repeated 4\n",
+    ),
+    (
+        "define i64 @a(i64 %x,\n  i64 %x) {\n  ret i64 0\n}\n",
+        REPEATED_2,
+    ),
+    ("define i64 @a(i64 %x) {\nx:\n  ret i64 0\n}\n", REPEATED_2),
+    ("declare void @a(i64 %x,\n  i64 %x)\n", REPEATED_2),
+    ("%t = type { i8 }\n%t = type { i8 }\n", REPEATED_2),
+    (
+        "@a = global i8 0\ndefine void @a() {\n  ret void\n}\n",
+        REPEATED_2,
+    ),
+    ("declare void @a()\n@a = global i8 0\n", REPEATED_2),
+    ("@b = global i8 0\n@b = alias i8, ptr @b\n", REPEATED_2),
+    // Names that no item may have: the first of them in the text, where none is defined twice.
+    (
+        "define void @_start() {\n  ret void\n}\n",
+        "llc: refused 7 Reserved _start\n",
+    ),
+    (
+        "define i64 @__host_a() {\n  ret i64 0\n}\n",
+        "llc: refused 7 Reserved __host_a\n",
+    ),
+    (
+        "@llvm.ctpop.i8 = global i8 0\n",
+        "llc: refused 7 Reserved llvm.ctpop.i8\n",
+    ),
+    (
+        "define i64 @.LBB0a() {\n  ret i64 0\n}\n",
+        "llc: refused 7 Reserved .LBB0a\n",
+    ),
+    (
+        "define i64 @a() {\n  ret i64 0\n}\ndeclare void @.LBB7()\n",
+        "llc: refused 7 Reserved .LBB7\n",
+    ),
+    (
+        "@a = alias i8, ptr @_start\n@_start = global i8 0\n@\"__host_ b\" = global i8 0\n",
+        "llc: refused 7 Reserved _start\n",
+    ),
+    (
+        "declare void @a()\n@\"__host_ b\" = global i8 0\ndefine void @_start() {\n  ret void\n}\n",
+        "llc: refused 7 Reserved \"__host_ b\"\n",
+    ),
+    (
+        "define void @_start() {\n  ret void\n}\n@a = global i8 0\n@a = global i8 0\n",
+        "llc: refused 6 Repeated 5\n",
+    ),
     // Not built.
     ("define i64 @a() {\n  ret i64 2048\n}\n", AT_2),
     ("define i64 @a() {\n  ret i64 -2049\n}\n", AT_2),
@@ -73,13 +127,6 @@ const REFUSED: &[Row] = &[
     ),
     ("define i64 @\"a b\"() {\n  ret i64 0\n}\n", AT_1),
     ("define i64 @0() {\n  ret i64 0\n}\n", AT_1),
-    ("define i64 @_start() {\n  ret i64 0\n}\n", AT_1),
-    ("define i64 @__host_a() {\n  ret i64 0\n}\n", AT_1),
-    ("define i64 @.LBB0a() {\n  ret i64 0\n}\n", AT_1),
-    (
-        "define i64 @a() {\n  ret i64 0\n}\ndeclare void @.LBB7()\n",
-        AT_4,
-    ),
     ("declare [2 x i64] @a()\n", AT_1),
     ("declare void @a({ i64 })\n", AT_1),
     ("declare void @__host_put(i64)\n", AT_1),
@@ -91,14 +138,6 @@ const REFUSED: &[Row] = &[
         AT_4,
     ),
     ("declare void @b()\n@a = alias void (), ptr @b\n", AT_2),
-    (
-        "define i64 @a() {\n  ret i64 0\n}\ndefine i64 @a() {\n  ret i64 0\n}\n",
-        AT_4,
-    ),
-    ("define i64 @a(i64 %x,\n  i64 %x) {\n  ret i64 0\n}\n", AT_2),
-    ("define i64 @a(i64 %x) {\nx:\n  ret i64 0\n}\n", AT_2),
-    ("declare void @a(i64 %x,\n  i64 %x)\n", AT_2),
-    ("%t = type { i8 }\n%t = type { i8 }\n", AT_2),
     ("%u = type { i8 }\n%t = type { [2 x %t] }\n", AT_2),
     ("%t = type { [4294967295 x i16] }\n", AT_1),
     (

@@ -8,7 +8,8 @@ use Rattle.std.proofs.lemmas.List.{length-append}
 use Rattle.cg_io.specs.Told.{GivesAll, TakesExactly}
 use Rattle.cg_io.proofs.ToldLemmas.{GivesAll-told}
 use Rattle.cg_built.proofs.Programs.{IsProgram}
-use Rattle.cg_built.specs.Unbuilt.{first_unbuilt}
+use Rattle.cg_built.specs.Unbuilt.{IsBuilt, first_unbuilt}
+use Rattle.ir_check.proofs.OneAnswer.{checked_excludes}
 use Rattle.cg_built.proofs.UnbuiltLemmas.{is_program}
 use Rattle.cg_part.specs.Text.{part_text}
 use Rattle.cg_part.proofs.AllowedLemmas.{image_allowed, program_allowed}
@@ -77,9 +78,10 @@ run_apart m e (has, image, linked) (inr (also, (why, unlinked, some, is))) = som
 none_some : (found : Option ℕ) (line : ℕ) → found ≡ None → found ≡ Some line → ⊥
 none_some found line none some = absurd (cc)
 
-module_apart : (mode : Mode) (m : Module) (e : Refusal) → first_unbuilt m ≡ None → Serves mode m → IsModuleRefusal mode m e → ⊥
-module_apart mode m e built serves (inl (line, unbuilt, is)) = none_some (first_unbuilt m) line built unbuilt
-module_apart mode m e built serves (inr (also, running, refused)) = run_apart m e (serves_run mode m running serves) refused
+module_apart : (mode : Mode) (m : Module) (e : Refusal) → IsBuilt m → Serves mode m → IsModuleRefusal mode m e → ⊥
+module_apart mode m e is serves (inl refused) = checked_excludes m e is.checked refused
+module_apart mode m e is serves (inr (inl (also, line, unbuilt, same))) = none_some (first_unbuilt m) line is.built unbuilt
+module_apart mode m e is serves (inr (inr (also, running, refused))) = run_apart m e (serves_run mode m running serves) refused
 
 -- an accepted text that serves a mode has no first refusal in it
 accepted_apart : (mode : Mode) (bytes : List ℕ) (m : Module) (refusal : Refusal) → IsAccepted bytes m → Serves mode m →

@@ -12,8 +12,9 @@ use Rattle.obj_link.specs.declared.refusal.Unlinked.{Unlinked}
 use Rattle.obj_link.specs.declared.refusal.Unlinked.TheVariants.{NoMemory}
 use Rattle.rv_isa.specs.Lines.{ended}
 use Rattle.cg_built.specs.Main.{has_main}
+use Rattle.cg_built.specs.Unbuilt.{IsBuilt}
 use Rattle.llc_top.specs.Outcome.{Outcome, words_refused, read_failed, refuses, compiles, runs, Tells, TellsPart, refusal_text}
-use Rattle.llc_top.specs.Refusals.{IsAccepted, IsRunRefusal, IsTextRefusal, refusal_of}
+use Rattle.llc_top.specs.Refusals.{IsAccepted, IsModuleRefusal, IsRunRefusal, IsTextRefusal, refusal_of}
 use Rattle.llc_top.specs.Streams.{SinkChange, TellsAll, CutOff}
 use Rattle.llc_top.specs.declared.status.Status.{Status}
 use Rattle.llc_top.specs.declared.status.Status.TheVariants as statuses
@@ -75,6 +76,14 @@ HasModuleReason command m read_failed = ⊥
 HasModuleReason command m (refuses e) = (command.mode ≡ modes.Run) × IsRunRefusal m e
 HasModuleReason command m (compiles other) = (command.mode ≡ modes.Compile) × (other ≡ m)
 HasModuleReason command m (runs asked image) = (command.mode ≡ modes.Run) × HasRunReason command m (runs asked image)
+
+-- why a module that was read comes to this
+abbrev pub HasReadReason : Command → Module → Outcome → Type 0
+HasReadReason command m words_refused = ⊥
+HasReadReason command m read_failed = ⊥
+HasReadReason command m (refuses e) = IsModuleRefusal command.mode m e
+HasReadReason command m (compiles other) = (command.mode ≡ modes.Compile) × (other ≡ m) × IsBuilt m
+HasReadReason command m (runs asked image) = (command.mode ≡ modes.Run) × IsBuilt m × HasRunReason command m (runs asked image)
 
 -- why a text that is not too long comes to this
 abbrev pub HasTextReason : Command → List ℕ → Outcome → Type 0

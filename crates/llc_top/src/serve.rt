@@ -2,7 +2,7 @@
 ghost use Rattle.std.specs.Prelude.{◌≡◌, ◌≤◌, ◌⊎◌, length};
 ghost use Rattle.cg_built.specs.Unbuilt.{IsBuilt};
 ghost use Rattle.llc_top.specs.Outcome.{Answers};
-ghost use Rattle.llc_top.specs.Partial.{HasTextReason, HasModuleReason, HasRunReason};
+ghost use Rattle.llc_top.specs.Partial.{HasTextReason, HasReadReason, HasModuleReason, HasRunReason};
 ghost use Rattle.llc_top.specs.Refusals.{text_limit};
 ghost use Rattle.llc_top.specs.Streams.{sink_change};
 
@@ -13,6 +13,7 @@ use crate::status::Status;
 use cg_built::{defines_main, has_main, unbuilt};
 use cg_io::Sink;
 use cg_part::program_of;
+use ir_check::{Checked, check};
 use ir_read::read_module;
 use ir_syntax::{Module, Refusal};
 use llc_words::{Command, Mode};
@@ -32,12 +33,47 @@ pub fn serve_text<O: Sink, E: Sink>(
     ensures untouched { (result ≡ Status.Done) ⊎ (result ≡ Status.NoMemory) ⊎ (result ≡ Status.WriteFault) ⊎
         (out.new ≡ out.old) }
 {
-    let m = match read_module(alloc, text) {
-        Ok(m) => m,
-        Err(refusal) => return answer_unread(err, refusal),
-    };
-    match unbuilt(alloc, &m) {
-        Ok(None) => serve_module(alloc, command, &m, out, err),
+    match read_module(alloc, text) {
+        Ok(m) => serve_read(alloc, command, m, out, err),
+        Err(refusal) => answer_unread(err, refusal),
+    }
+}
+
+/// Checks a module that was read, and does what the command says.
+fn serve_read<O: Sink, E: Sink>(
+    alloc: Global,
+    command: &Command<'_>,
+    m: Module,
+    out: &mut O,
+    err: &mut E,
+) -> Status
+    ensures answer { Answers (HasReadReason command.now m) result
+        (sink_change O.written O.faults out.old out.new) (sink_change E.written E.faults err.old err.new) }
+    ensures untouched { (result ≡ Status.Done) ⊎ (result ≡ Status.NoMemory) ⊎ (result ≡ Status.WriteFault) ⊎
+        (out.new ≡ out.old) }
+{
+    match check(alloc, m) {
+        Ok(checked) => serve_checked(alloc, command, &checked, out, err),
+        Err(refusal) => answer_unread(err, refusal),
+    }
+}
+
+/// Does with a module that passed the checks what the command says, or tells what is not built.
+fn serve_checked<O: Sink, E: Sink>(
+    alloc: Global,
+    command: &Command<'_>,
+    checked: &Checked,
+    out: &mut O,
+    err: &mut E,
+) -> Status
+    ensures answer { Answers (HasReadReason command.now checked.now) result
+        (sink_change O.written O.faults out.old out.new) (sink_change E.written E.faults err.old err.new) }
+    ensures untouched { (result ≡ Status.Done) ⊎ (result ≡ Status.NoMemory) ⊎ (result ≡ Status.WriteFault) ⊎
+        (out.new ≡ out.old) }
+{
+    let m = checked.module();
+    match unbuilt(alloc, checked) {
+        Ok(None) => serve_module(alloc, command, m, out, err),
         Ok(Some(line)) => answer_refusal(err, Refusal::NotYet { line }),
         Err(_) => Status::NoMemory,
     }

@@ -2,13 +2,12 @@
 ghost use Rattle.std.specs.Prelude.{◌≡◌, ◌==◌, ◌&&◌, Some};
 ghost use Rattle.std.specs.List.{list_all};
 ghost use Rattle.ir_ident.specs.Names.{name_bytes};
-ghost use Rattle.cg_built.specs.Built.{is_built_name};
+ghost use Rattle.rv_isa.specs.Symbol.{is_bare};
 ghost use Rattle.cg_built.specs.Unbuilt.{bits_of, is_built_head, is_default, is_external, is_32_or_64};
 
 use crate::linkage::{is_default, is_external};
-use crate::symbol::bytes_of;
 use asm_line::is_bare;
-use ir_check::is_reserved;
+use ir_naming::bytes_of;
 use ir_syntax::{Function, Param, TyText, TypeTree};
 
 /// The most parameters that have registers.
@@ -29,17 +28,11 @@ pub fn is_built_head(function: &Function) -> bool
 
 fn is_seen(function: &Function) -> bool
     ensures { result ≡ (is_external function.now.linkage && is_default function.now.visibility
-        && is_built_name (name_bytes function.now.name)) }
+        && is_bare (name_bytes function.now.name)) }
 {
     is_external(function.linkage)
         & is_default(function.visibility)
-        & is_built_name(bytes_of(&function.name))
-}
-
-fn is_built_name(name: &[u8]) -> bool
-    ensures { result ≡ is_built_name name.now }
-{
-    is_bare(name) & !is_reserved(name)
+        & is_bare(bytes_of(&function.name))
 }
 
 fn is_32_or_64(bits: u8) -> bool

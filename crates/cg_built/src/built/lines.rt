@@ -1,15 +1,12 @@
 //! The lines of items.
-ghost use Rattle.std.specs.Prelude.{◌≡◌, ◌++◌, ◌||◌, not, Some, OnOk, map};
+ghost use Rattle.std.specs.Prelude.{◌≡◌, ◌++◌, not, Some, OnOk, map};
 ghost use Rattle.std.specs.List.{flat_map};
-ghost use Rattle.ir_check.specs.Reserved.{is_label_name};
 ghost use Rattle.ir_check.specs.Signatures.{is_declarable};
-ghost use Rattle.ir_ident.specs.Names.{name_bytes};
 ghost use Rattle.cg_built.specs.Unbuilt.{unbuilt_by, unbuilt_in};
 
 use crate::built::body::is_built_body;
 use crate::built::head::is_built_head;
-use crate::symbol::bytes_of;
-use ir_check::{is_declarable, is_label_name};
+use ir_check::is_declarable;
 use ir_syntax::{Alias, Block, Function, Global, TypeDef, push_line_if};
 use std::alloc::AllocError;
 
@@ -90,7 +87,7 @@ fn push_definition(
 
 /// Whether a function may not be declared.
 fn is_strange(function: &Function) -> bool
-    ensures { result ≡ (is_label_name (name_bytes function.now.name) || not (is_declarable function.now)) }
+    ensures { result ≡ not (is_declarable function.now) }
 {
-    is_label_name(bytes_of(&function.name)) | !is_declarable(function)
+    !is_declarable(function)
 }

@@ -1,0 +1,11 @@
+use Rattle.std.proofs.Common.{◌∙◌, sym}
+use Rattle.std.proofs.lemmas.Iterator.{YieldsList-from_slice}
+use Rattle.std.proofs.lemmas.Iterator.Adapters.{option_map_id}
+use Rattle.std.proofs.lemmas.Iterator.Consumers.{YieldsList-at, YieldsList-from_copied, min_from_yields_List}
+use Rattle.ir_check.proofs.checking.least_line.Goals as goal
+
+pub returns : goal.returns
+returns c =
+    sym (option_map_id c.min.result)
+    ∙ min_from_yields_List c.copied.result c.min.result c.min.ensures.ran
+    (YieldsList-from_copied (YieldsList-at c.copied.ensures.source (YieldsList-from_slice c.args.lines.now c.iter.ensures.rest)))

@@ -1,6 +1,0 @@
-use Rattle.std.proofs.Common.{◌≡◌, ◌++◌, take, map}
-use Rattle.ir_check.specs.Repeated.{type_name}
-use Rattle.ir_check.proofs.defined.push_types.Given as goal
-
-abbrev pub invariant-loop-ty : goal.invariant-loop-ty
-invariant-loop-ty l = l.names.items ≡ l.initial.names.items ++ map type_name (take l.ty-index l.types)

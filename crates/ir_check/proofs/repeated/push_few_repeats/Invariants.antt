@@ -1,6 +1,0 @@
-use Rattle.std.proofs.Common.{◌≡◌, ◌++◌, take}
-use Rattle.ir_check.specs.Repeated.{repeats}
-use Rattle.ir_check.proofs.repeated.push_few_repeats.Given as goal
-
-abbrev pub invariant-loop-place : goal.invariant-loop-place
-invariant-loop-place l = l.lines.items ≡ l.initial.lines.items ++ repeats (take l.place l.names)

@@ -1,7 +1,0 @@
-use Rattle.std.proofs.Common.{◌≡◌, ◌++◌, take, flat_map}
-use Rattle.ir_check.specs.Repeated.{local_names, repeats}
-use Rattle.ir_check.proofs.repeated.push_repeated_locals.Given as goal
-
-abbrev pub invariant-loop-function : goal.invariant-loop-function
-invariant-loop-function l =
-    l.lines.items ≡ l.initial.lines.items ++ flat_map (λ f. repeats (local_names f)) (take l.function-index l.functions)

@@ -1,0 +1,119 @@
+//! The names of the items of a module in the order of the text.
+ghost use Rattle.std.specs.Prelude.{◌≡◌, ◌++◌, ◌≤◌, IfOk, OnOk, drop, length, map, nat_le};
+ghost use Rattle.ir_naming.specs.Items.{alias_item, function_item, merged, named_items, variable_item};
+
+use crate::item_name::ItemName;
+use ir_syntax::{Alias, Function, Global as Variable, Module};
+use std::alloc::{AllocError, Global};
+
+/// The names of the variables, functions and aliases of a module, in the order of their places.
+///
+/// # Errors
+///
+/// [`AllocError`].
+pub fn item_names(alloc: Global, m: &Module) -> Result<Vec<ItemName<'_>>, AllocError>
+    ensures { IfOk result (λ names. names.items ≡ named_items m.now) }
+{
+    let variables = variable_names(alloc, m.globals.as_slice())?;
+    let functions = function_names(alloc, m.functions.as_slice())?;
+    let aliases = alias_names(alloc, m.aliases.as_slice())?;
+    let rest = merged(alloc, functions.as_slice(), aliases.as_slice())?;
+    merged(alloc, variables.as_slice(), rest.as_slice())
+}
+
+fn variable_names(alloc: Global, variables: &[Variable]) -> Result<Vec<ItemName<'_>>, AllocError>
+    ensures { IfOk result (λ names. names.items ≡ map variable_item variables.now) }
+{
+    let mut names = Vec::with_capacity(alloc, variables.len())?;
+    for variable in variables {
+        names.push(ItemName {
+            place: variable.place,
+            line: variable.line,
+            defined: variable.init.is_some(),
+            name: &variable.name,
+        })?;
+    }
+    Ok(names)
+}
+
+fn function_names(alloc: Global, functions: &[Function]) -> Result<Vec<ItemName<'_>>, AllocError>
+    ensures { IfOk result (λ names. names.items ≡ map function_item functions.now) }
+{
+    let mut names = Vec::with_capacity(alloc, functions.len())?;
+    for function in functions {
+        names.push(ItemName {
+            place: function.place,
+            line: function.line,
+            defined: function.blocks.is_some(),
+            name: &function.name,
+        })?;
+    }
+    Ok(names)
+}
+
+fn alias_names(alloc: Global, aliases: &[Alias]) -> Result<Vec<ItemName<'_>>, AllocError>
+    ensures { IfOk result (λ names. names.items ≡ map alias_item aliases.now) }
+{
+    let mut names = Vec::with_capacity(alloc, aliases.len())?;
+    for alias in aliases {
+        names.push(ItemName {
+            place: alias.place,
+            line: alias.line,
+            defined: true,
+            name: &alias.name,
+        })?;
+    }
+    Ok(names)
+}
+
+/// Two lists of items in the order of their places, each in this order by itself.
+fn merged<'a>(
+    alloc: Global,
+    left: &[ItemName<'a>],
+    right: &[ItemName<'a>],
+) -> Result<Vec<ItemName<'a>>, AllocError>
+    ensures { IfOk result (λ names. names.items ≡ merged left.now right.now) }
+{
+    let mut names = Vec::with_capacity(alloc, left.len().saturating_add(right.len()))?;
+    let mut taken = 0;
+    let mut other = 0;
+    while taken < left.len() && other < right.len() {
+        let first = &left[taken];
+        let second = &right[other];
+        if is_before(first, second) {
+            names.push(first.copy())?;
+            taken += 1;
+        } else {
+            names.push(second.copy())?;
+            other += 1;
+        }
+    }
+    push_all(&mut names, rest_of(left, taken))?;
+    push_all(&mut names, rest_of(right, other))?;
+    Ok(names)
+}
+
+/// Whether the first item stands before the second in the text.
+fn is_before(first: &ItemName<'_>, second: &ItemName<'_>) -> bool
+    ensures { result ≡ nat_le first.now.place second.now.place }
+{
+    first.place <= second.place
+}
+
+/// The items from a place in the list on.
+fn rest_of<'s, 'a>(items: &'s [ItemName<'a>], from: usize) -> &'s [ItemName<'a>]
+    requires { from ≤ length items.now }
+    ensures { result.now ≡ drop from items.now }
+{
+    &items[from..]
+}
+
+/// Adds items at the end.
+fn push_all<'a>(names: &mut Vec<ItemName<'a>>, items: &[ItemName<'a>]) -> Result<(), AllocError>
+    ensures { OnOk result (names.new.items ≡ names.old.items ++ items.now) }
+{
+    for item in items {
+        names.push(item.copy())?;
+    }
+    Ok(())
+}

@@ -1,0 +1,4 @@
+; The start of a program is the linker's to define.
+define void @_start() {
+  ret void
+}
