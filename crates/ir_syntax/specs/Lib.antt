@@ -4,5 +4,6 @@ pub mod InitLists
 pub mod Inits
 pub mod Lines
 pub mod Literals
+pub mod Terms
 pub mod TypeCodes
 pub mod Types

@@ -97,4 +97,11 @@ impl Aliases {
     {
         self.aliases.as_slice()
     }
+
+    /// The aliases in order, to be taken apart.
+    pub fn into_vec(self) -> Vec<Alias>
+        ensures { result.items ≡ self }
+    {
+        self.aliases
+    }
 }

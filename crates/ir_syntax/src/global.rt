@@ -82,4 +82,11 @@ impl Globals {
     {
         self.globals.as_slice()
     }
+
+    /// The variables in order, to be taken apart.
+    pub fn into_vec(self) -> Vec<Global>
+        ensures { result.items ≡ self }
+    {
+        self.globals
+    }
 }

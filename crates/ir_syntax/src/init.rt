@@ -98,12 +98,19 @@ impl Init {
         &self.tree
     }
 
-    /// The initialiser as a tree, to be a part of another.
-    fn into_tree(self) -> InitTree
+    /// The initialiser as a tree, to be taken apart or to be a part of another.
+    pub fn into_tree(self) -> InitTree
         ensures { init_of result ≡ self }
     {
         let Init { tree } = self;
         tree
+    }
+
+    /// The initialiser of a tree.
+    pub fn from_tree(tree: InitTree) -> Init
+        ensures { result ≡ init_of tree }
+    {
+        Init { tree }
     }
 }
 

@@ -80,6 +80,13 @@ impl Args {
     {
         self.args.as_slice()
     }
+
+    /// The arguments in order, to be taken apart.
+    pub fn into_vec(self) -> Vec<Arg>
+        ensures { result.items ≡ self }
+    {
+        self.args
+    }
 }
 
 /// What an instruction does, with its parts in the order in which the text has them.

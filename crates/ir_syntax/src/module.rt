@@ -5,7 +5,6 @@ use crate::global::Globals;
 use crate::type_def::TypeDefs;
 
 /// A module: its items in the order of the text, each kind in a list of its own.
-#[derive(Drop)]
 pub struct Module {
     /// The named types.
     pub types: TypeDefs,
@@ -15,4 +14,19 @@ pub struct Module {
     pub functions: Functions,
     /// The aliases.
     pub aliases: Aliases,
+}
+
+impl Drop for Module {
+    fn drop(self) {
+        let Module {
+            types,
+            globals,
+            functions,
+            aliases,
+        } = self;
+        drop(types);
+        drop(globals);
+        drop(functions);
+        drop(aliases);
+    }
 }

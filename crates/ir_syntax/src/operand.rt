@@ -199,4 +199,11 @@ impl TypedOperands {
     {
         self.operands.as_slice()
     }
+
+    /// The operands in order, to be taken apart.
+    pub fn into_vec(self) -> Vec<TypedOperand>
+        ensures { result.items ≡ self }
+    {
+        self.operands
+    }
 }

@@ -17,7 +17,6 @@ pub enum Count {
 }
 
 /// Why a text is refused. The answer is the first of these that holds, in the order that they stand in here.
-#[derive(Drop)]
 pub enum Refusal {
     /// Number 1: more than 16,777,216 bytes were read.
     TooLong {
@@ -98,4 +97,25 @@ pub enum Refusal {
     },
     /// Memory ran out.
     NoMemory,
+}
+
+impl Drop for Refusal {
+    fn drop(self) {
+        match self {
+            Refusal::Unsupported { word, line: _ } => drop(word),
+            Refusal::Reserved { name }
+            | Refusal::AliasRule { name }
+            | Refusal::Unresolved { name } => drop(name),
+            Refusal::TooLong { taken: _ } | Refusal::Image { bytes: _ } => {}
+            Refusal::Lex { line: _ }
+            | Refusal::Form { line: _ }
+            | Refusal::Name { line: _ }
+            | Refusal::Repeated { line: _ }
+            | Refusal::TypeRule { line: _ }
+            | Refusal::FlowRule { line: _ }
+            | Refusal::NotYet { line: _ } => {}
+            Refusal::Count { which: _ } => {}
+            Refusal::NoMain | Refusal::BadMain | Refusal::NoMemory => {}
+        }
+    }
 }

@@ -1,5 +1,6 @@
 //! Terminators of blocks (LangRef, "Terminator Instructions").
 ghost use Rattle.std.specs.Prelude.{◌≡◌};
+ghost use Rattle.ir_syntax.specs.Terms.{term_line};
 
 use crate::literal::Literal;
 use crate::operand::Operand;
@@ -119,6 +120,22 @@ pub enum Term {
         /// The line of `unreachable`.
         line: u32,
     },
+}
+
+impl Term {
+    /// The line of its first token.
+    pub fn line(&self) -> u32
+        ensures { result ≡ term_line self.now }
+    {
+        match self {
+            Term::ReturnVoid { line }
+            | Term::Ret { line, .. }
+            | Term::Br { line, .. }
+            | Term::CondBr { line, .. }
+            | Term::Switch { line, .. }
+            | Term::Unreachable { line } => *line,
+        }
+    }
 }
 
 impl Drop for Term {

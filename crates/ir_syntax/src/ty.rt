@@ -1,11 +1,15 @@
 //! Types as the text writes them (LangRef, "Type System").
-ghost use Rattle.std.specs.Prelude.{◌≡◌, IfOk};
+ghost use Rattle.std.specs.Prelude.{◌≡◌, ◌≤◌, IfOk, IfSome};
+ghost use Rattle.ir_syntax.specs.Literals.{width_of};
 ghost use Rattle.ir_syntax.specs.Types.{array, int, list_of, named, ptr, struct, tree_of, trees_from, trees_in};
 
 use crate::tree::{TypeNode, TypeTree, TypeTreeList};
 use ir_ident::NameUse;
 use std::alloc::{AllocError, Global};
 use std::marker::Model;
+
+/// The number of bits of the widest integers that the grammar has.
+const WIDEST: u8 = 64;
 
 /// A type as written. Contracts see a tree without boxes.
 pub struct TyText {
@@ -80,6 +84,18 @@ impl TyText {
         })
     }
 
+    /// The number of bits of an integer type, at most 64; none of another type (LangRef, "Integer Type").
+    pub fn width(&self) -> Option<u8>
+        ensures value { result ≡ width_of self.now }
+        ensures within { IfSome result (λ bits. bits ≤ 64) }
+    {
+        match &self.tree {
+            TypeTree::Int { bits } => (*bits <= WIDEST).then_some(*bits),
+            TypeTree::Ptr | TypeTree::Array { .. } | TypeTree::Struct { .. } | TypeTree::Named(_) =>
+                None,
+        }
+    }
+
     /// The type as a tree, to be matched.
     pub fn tree(&self) -> &TypeTree
         ensures { tree_of result.now ≡ self.now }
@@ -148,7 +164,7 @@ impl TypeTexts {
     }
 
     /// The types in order, to be taken apart.
-    fn into_vec(self) -> Vec<TyText>
+    pub fn into_vec(self) -> Vec<TyText>
         ensures { result.items ≡ self }
     {
         self.types
