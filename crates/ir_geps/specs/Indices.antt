@@ -1,11 +1,12 @@
 -- Indices of a getelementptr, and the numbers that they write.
-use Rattle.std.specs.Prelude.{ℕ, ◌+◌, ◌-◌, ◌*◌, ◌%◌, ◌^◌, Bool, true, false, nat_eq, nat_lt, Option, None, Some, if◌then◌else◌}
+use Rattle.std.specs.Prelude.{ℕ, ◌+◌, ◌-◌, ◌*◌, ◌^◌, Bool, true, false, nat_eq, nat_lt, Option, None, Some, if◌then◌else◌}
 use Rattle.ir_syntax.specs.Types.{TextTree, int}
 use Rattle.ir_syntax.specs.declared.literal.Literal.{Literal}
 use Rattle.ir_syntax.specs.declared.operand.Operand.{Operand}
 use Rattle.ir_syntax.specs.declared.operand.Operand.TheVariants.{Int}
 use Rattle.ir_syntax.specs.declared.operand.TypedLiteral.{TypedLiteral}
 use Rattle.ir_syntax.specs.declared.operand.TypedOperand.{TypedOperand}
+use Rattle.ir_syntax.specs.Literals.{wrapped}
 
 -- an integer literal with its type, or any other value
 pub data Index : Type 0 where
@@ -22,17 +23,13 @@ value_index ty other = variable
 abbrev pub operand_index : TypedOperand → Index
 operand_index o = value_index o.ty o.value
 
--- what a literal is modulo 2 to this many bits
-abbrev pub low_bits : ℕ → Literal → ℕ
-low_bits bits l = if l.negative then (2 ^ bits - l.magnitude % 2 ^ bits) % 2 ^ bits else l.magnitude % 2 ^ bits
-
 -- a number of this many bits, its highest one repeated up to 64
 abbrev pub sign_extended : ℕ → ℕ → ℕ
 sign_extended bits n = if nat_lt (2 * n) (2 ^ bits) then n else n + (2 ^ 64 - 2 ^ bits)
 
 -- the 64 bits of a literal of this many bits: sign-extended, or the lowest ones
 abbrev pub word_of : ℕ → Literal → ℕ
-word_of bits l = if nat_lt bits 64 then sign_extended bits (low_bits bits l) else low_bits 64 l
+word_of bits l = if nat_lt bits 64 then sign_extended bits (wrapped bits l) else wrapped 64 l
 
 -- the 64 bits of a literal of an integer type
 abbrev pub literal_word : TextTree → Literal → Option ℕ
@@ -46,7 +43,7 @@ is_integer (constant other l) = false
 is_integer variable = true
 
 abbrev pub literal_field : TextTree → Literal → Option ℕ
-literal_field (int bits) l = if nat_eq bits 32 then Some (low_bits 32 l) else None
+literal_field (int bits) l = if nat_eq bits 32 then Some (wrapped 32 l) else None
 literal_field other l = None
 
 -- the number of the field that an index names: a constant of type `i32`

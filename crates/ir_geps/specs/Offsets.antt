@@ -2,23 +2,15 @@
 use Rattle.std.specs.Prelude.{ℕ, zero, suc, ◌+◌, ◌*◌, ◌%◌, ◌^◌, Bool, nat_le, Option, None, Some, option_map, List, [], ◌∷◌, if◌then◌else◌}
 use Rattle.std.specs.Option.{option_and_then}
 use Rattle.ir_geps.specs.Indices.{literal_field, literal_index, literal_word}
-use Rattle.ir_geps.specs.Ranges.{part_of, written_out}
-use Rattle.ir_sizes.specs.Sized.{is_small, level_limit, replaced}
+use Rattle.ir_geps.specs.Ranges.{part_of}
+use Rattle.ir_sizes.specs.Named.{written_out}
+use Rattle.ir_sizes.specs.Sized.{layout_in}
 use Rattle.ir_syntax.specs.Types.{TextTree, array, struct, TextTrees, end, more}
 use Rattle.ir_syntax.specs.declared.operand.GepParts.{GepParts}
 use Rattle.ir_syntax.specs.declared.operand.TypedLiteral.{TypedLiteral}
 use Rattle.ir_syntax.specs.declared.type_def.TypeDef.{TypeDef}
 use Rattle.ty_core.specs.declared.extent.Layout.{Layout}
-use Rattle.ty_core.specs.Size.{begin_at, layout_of, rounded, size_limit}
-use Rattle.ty_core.specs.Tree.{Tree}
-
-abbrev pub small_layout : Option Tree → Option Layout
-small_layout None = None
-small_layout (Some tree) = if is_small (Some tree) then Some (layout_of tree) else None
-
--- the layout of a type that has a size
-abbrev pub layout_in : List TypeDef → TextTree → Option Layout
-layout_in defs ty = small_layout (replaced defs level_limit ty)
+use Rattle.ty_core.specs.Size.{begin_at, rounded, size_limit}
 
 -- the bytes from one value to the next
 abbrev pub stride : Layout → ℕ
@@ -59,14 +51,14 @@ abbrev pub offset_within : List TypeDef → TextTree → List TypedLiteral → O
 offset_within defs ty [] = Some 0
 offset_within defs ty (l ∷ ls) = sum_of (begin_of defs ty l) (option_and_then (λ part. offset_within defs part ls) (part_of defs ty (literal_index l)))
 
-abbrev pub wrapped : Option ℕ → Option ℕ
-wrapped None = None
-wrapped (Some n) = Some (n % 2 ^ 64)
+abbrev pub in_64_bits : Option ℕ → Option ℕ
+in_64_bits None = None
+in_64_bits (Some n) = Some (n % 2 ^ 64)
 
 -- the first index steps over whole values, and each further one goes into a part; none where one is out of range, or a type has no size
 abbrev pub gep_offset : List TypeDef → TextTree → List TypedLiteral → Option ℕ
 gep_offset defs ty [] = Some 0
-gep_offset defs ty (first ∷ rest) = wrapped (sum_of (values_over defs ty first) (offset_within defs ty rest))
+gep_offset defs ty (first ∷ rest) = in_64_bits (sum_of (values_over defs ty first) (offset_within defs ty rest))
 
 abbrev pub parts_offset : List TypeDef → GepParts → Option ℕ
 parts_offset defs g = gep_offset defs g.ty g.indices

@@ -12,17 +12,8 @@ use Rattle.ir_syntax.specs.declared.module.Module.{Module}
 use Rattle.ir_syntax.specs.declared.operand.Operand.{Operand}
 use Rattle.ir_syntax.specs.declared.phi.Phi.{Phi}
 use Rattle.ir_syntax.specs.declared.term.Term.{Term}
-use Rattle.ir_syntax.specs.declared.term.Term.TheVariants.{ReturnVoid, Ret, Br, CondBr, Switch, Unreachable}
 use Rattle.ir_walk.specs.Parts.{Part, instr_parts, phi_parts, term_parts}
-
--- the line of a terminator's first token
-abbrev pub term_line : Term → ℕ
-term_line (ReturnVoid line) = line
-term_line (Ret line ty value) = line
-term_line (Br line target) = line
-term_line (CondBr line ty condition then_target else_target) = line
-term_line (Switch line ty value default cases) = line
-term_line (Unreachable line) = line
+use Rattle.ir_syntax.specs.Terms.{term_line}
 
 -- whether one of the operands among these parts breaks the rule
 abbrev pub any_breaks : (Operand → Bool) → List Part → Bool

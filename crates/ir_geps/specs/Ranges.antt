@@ -1,27 +1,11 @@
 -- Indices that go down a type (LangRef, "'getelementptr' Instruction").
-use Rattle.std.specs.Prelude.{ℕ, zero, suc, Bool, true, false, ◌&&◌, Option, None, Some, List, [], ◌∷◌, map, slice_get, if◌then◌else◌}
+use Rattle.std.specs.Prelude.{ℕ, zero, suc, Bool, true, false, ◌&&◌, Option, None, Some, List, [], ◌∷◌, map, if◌then◌else◌}
 use Rattle.std.specs.Option.{option_and_then}
 use Rattle.ir_geps.specs.Indices.{Index, field_number, is_integer, literal_index}
-use Rattle.ir_ident.specs.declared.name.Name.{Name}
-use Rattle.ir_sizes.specs.Measured.{place_of}
-use Rattle.ir_sizes.specs.Sized.{body_of}
-use Rattle.ir_syntax.specs.Types.{TextTree, array, struct, named, TextTrees, end, more}
+use Rattle.ir_sizes.specs.Named.{written_out}
+use Rattle.ir_syntax.specs.Types.{TextTree, array, struct, TextTrees, end, more}
 use Rattle.ir_syntax.specs.declared.operand.GepParts.{GepParts}
 use Rattle.ir_syntax.specs.declared.type_def.TypeDef.{TypeDef}
-
--- the first definition of a name
-abbrev pub first_def : List TypeDef → Name → Option TypeDef
-first_def defs name = option_and_then (slice_get defs) (place_of defs name)
-
--- a name stands for a struct
-abbrev pub struct_in : Option TextTree → Option TextTree
-struct_in (Some (struct packed fields)) = Some (struct packed fields)
-struct_in other = None
-
--- a type itself, or the struct that a name stands for
-abbrev pub written_out : List TypeDef → TextTree → Option TextTree
-written_out defs (named place) = struct_in (body_of defs place.name)
-written_out defs other = Some other
 
 -- the field at a place, counted from 0
 abbrev pub field_at : TextTrees → ℕ → Option TextTree

@@ -3,9 +3,9 @@ ghost use Rattle.std.specs.Prelude.{◌≡◌, ◌++◌, OnOk};
 ghost use Rattle.std.specs.List.{flat_map};
 ghost use Rattle.ir_geps.specs.GepLines.{alias_lines, base_breaks, gep_lines, gep_lines_by, op_breaks, operand_breaks};
 
-use crate::named::NamedTypes;
 use crate::operand_lines::{OperandRule, push_operand_lines};
 use crate::range::{is_in_range, parts_in_range};
+use ir_sizes::NamedTypes;
 use ir_syntax::{Alias, AliasBase, Module, Op, Operand, push_line_if};
 use std::alloc::{AllocError, Global};
 

@@ -1,7 +1,8 @@
 //! Indices of a `getelementptr`, and the numbers that they write (LangRef, "'getelementptr' Instruction").
 ghost use Rattle.std.specs.Prelude.{◌≡◌, ◌+◌, ◌-◌, ◌*◌, ◌<◌, ◌≤◌, ◌^◌, nat_lt, if◌then◌else◌};
-ghost use Rattle.ir_geps.specs.Indices.{Index, constant, field_number, is_integer, literal_field, literal_index, literal_word, low_bits, operand_index, sign_extended, word_of};
+ghost use Rattle.ir_geps.specs.Indices.{Index, constant, field_number, is_integer, literal_field, literal_index, literal_word, operand_index, sign_extended, word_of};
 ghost use Rattle.ir_syntax.specs.declared.literal.Literal.{Literal};
+ghost use Rattle.ir_syntax.specs.Literals.{wrapped};
 
 use ir_syntax::{Literal, Operand, TyText, TypeTree, TypedLiteral, TypedOperand};
 
@@ -72,7 +73,7 @@ fn literal_field(ty: &TyText, literal: Literal) -> Option<u32>
 
 /// The lowest 32 bits of a literal.
 fn low_half(literal: Literal) -> u32
-    ensures { result ≡ low_bits 32 literal }
+    ensures { result ≡ wrapped 32 literal }
 {
     let magnitude = (literal.magnitude % HALF_WORD) as u32;
     if literal.negative {
@@ -84,7 +85,7 @@ fn low_half(literal: Literal) -> u32
 
 /// The lowest 64 bits of a literal.
 fn low_word(literal: Literal) -> u64
-    ensures { result ≡ low_bits 64 literal }
+    ensures { result ≡ wrapped 64 literal }
 {
     let magnitude = (literal.magnitude % WORD) as u64;
     if literal.negative {
@@ -118,7 +119,7 @@ fn word_of(bits: u8, literal: Literal) -> u64
 /// The 64 bits of a literal of fewer bits, sign-extended.
 fn extended(bits: u8, literal: Literal) -> u64
     requires { bits < 64 }
-    ensures { result ≡ sign_extended bits (low_bits bits literal) }
+    ensures { result ≡ sign_extended bits (wrapped bits literal) }
 {
     let unit = 1u64 << bits;
     let low = (literal.magnitude % u128::from(unit)) as u64;

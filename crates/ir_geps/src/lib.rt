@@ -4,7 +4,6 @@
 
 mod gep_lines;
 mod index;
-mod named;
 mod offset;
 mod operand_lines;
 mod operands;
@@ -13,7 +12,6 @@ mod range;
 
 pub use gep_lines::push_gep_lines;
 pub use index::{GepIndex, literal_word};
-pub use named::NamedTypes;
 pub use offset::gep_offset;
 pub use operand_lines::{OperandRule, push_operand_lines};
 pub use range::{is_in_range, parts_in_range};

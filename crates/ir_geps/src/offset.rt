@@ -1,12 +1,12 @@
 //! Offsets of constant `getelementptr`s (LangRef, "'getelementptr' Instruction").
 ghost use Rattle.std.specs.Prelude.{◌≡◌, ◌≤◌, ◌<◌, ◌+◌, ◌*◌, IfSome};
-ghost use Rattle.ir_geps.specs.Offsets.{begin_in, begin_of, field_begin, field_end, gep_offset, layout_in, offset_within, parts_offset, stride, sum_of, values_over, wrapped};
+ghost use Rattle.ir_geps.specs.Offsets.{begin_in, begin_of, field_begin, field_end, gep_offset, offset_within, parts_offset, stride, sum_of, values_over, in_64_bits};
 ghost use Rattle.ir_syntax.specs.Types.{tree_of, trees_in};
 ghost use Rattle.ty_core.specs.Size.{IsAlign, begin_at, rounded, size_limit};
 
 use crate::index::{GepIndex, literal_word};
-use crate::named::NamedTypes;
-use crate::parts::{part_of, written_out};
+use crate::parts::part_of;
+use ir_sizes::NamedTypes;
 use ir_syntax::{GepParts, TypeTree, TypeTreeList, TypedLiteral};
 use ty_core::{Layout, end_behind};
 
@@ -31,7 +31,7 @@ fn offset_within<'a>(
     ty: &'a TypeTree,
     literals: &[TypedLiteral],
 ) -> Option<u64>
-    ensures { result ≡ wrapped (offset_within types.now (tree_of ty.now) literals.now) }
+    ensures { result ≡ in_64_bits (offset_within types.now (tree_of ty.now) literals.now) }
 {
     let mut offset = 0u64;
     let mut part = ty;
@@ -45,14 +45,14 @@ fn offset_within<'a>(
 
 /// Where the part of a type begins that an index goes into.
 fn begin_of<'a>(types: &NamedTypes<'a>, ty: &'a TypeTree, literal: &TypedLiteral) -> Option<u64>
-    ensures { result ≡ wrapped (begin_of types.now (tree_of ty.now) literal.now) }
+    ensures { result ≡ in_64_bits (begin_of types.now (tree_of ty.now) literal.now) }
 {
-    let ty = written_out(types, ty)?;
+    let ty = types.written_out(ty)?;
     begin_in(types, ty, literal)
 }
 
 fn begin_in(types: &NamedTypes<'_>, ty: &TypeTree, literal: &TypedLiteral) -> Option<u64>
-    ensures { result ≡ wrapped (begin_in types.now literal.now (tree_of ty.now)) }
+    ensures { result ≡ in_64_bits (begin_in types.now literal.now (tree_of ty.now)) }
 {
     match ty {
         TypeTree::Array { elem, .. } => values_over(types, elem, literal),
@@ -66,7 +66,7 @@ fn begin_in(types: &NamedTypes<'_>, ty: &TypeTree, literal: &TypedLiteral) -> Op
 
 /// As many values of a type as a literal says, in bytes.
 fn values_over(types: &NamedTypes<'_>, ty: &TypeTree, literal: &TypedLiteral) -> Option<u64>
-    ensures { result ≡ wrapped (values_over types.now (tree_of ty.now) literal.now) }
+    ensures { result ≡ in_64_bits (values_over types.now (tree_of ty.now) literal.now) }
 {
     let word = literal_word(&literal.ty, literal.value)?;
     let layout = types.layout(ty)?;
@@ -80,7 +80,7 @@ fn field_begin(
     fields: &TypeTreeList,
     place: u32,
 ) -> Option<u64>
-    ensures { result ≡ wrapped (field_begin types.now packed 0 (trees_in fields.now) place) }
+    ensures { result ≡ in_64_bits (field_begin types.now packed 0 (trees_in fields.now) place) }
 {
     let mut at = 0u64;
     let mut rest = fields;

@@ -1,9 +1,10 @@
 //! The lines of what breaks a rule on operations and operands.
 ghost use Rattle.std.specs.Prelude.{◌≡◌, ◌++◌, Bool, IfOk, OnOk};
 ghost use Rattle.std.specs.List.{flat_map, list_any};
-ghost use Rattle.ir_geps.specs.OperandLines.{any_breaks, block_lines, body_lines, function_lines, global_lines, instr_lines, operand_lines, phi_lines, term_line, term_lines};
+ghost use Rattle.ir_geps.specs.OperandLines.{any_breaks, block_lines, body_lines, function_lines, global_lines, instr_lines, operand_lines, phi_lines, term_lines};
 ghost use Rattle.ir_syntax.specs.declared.instr.Op.{Op};
 ghost use Rattle.ir_syntax.specs.declared.operand.Operand.{Operand};
+ghost use Rattle.ir_syntax.specs.Terms.{term_line};
 
 use crate::operands::{Site, Sites, sites_in_init};
 use ir_syntax::{
@@ -128,7 +129,7 @@ fn push_block<R: OperandRule>(
     push_phis(alloc, rule, block.phis.as_slice(), lines)?;
     push_instrs(alloc, rule, block.instrs.as_slice(), lines)?;
     let fault = is_broken_in(alloc, rule, &block.term)?;
-    push_line_if(lines, fault, term_line(&block.term))
+    push_line_if(lines, fault, block.term.line())
 }
 
 fn push_phis<R: OperandRule>(
@@ -182,18 +183,4 @@ fn is_any_broken<R: OperandRule>(rule: &R, sites: &[Site<'_>]) -> bool
         broken |= rule.breaks(site.operand);
     }
     broken
-}
-
-/// The line of a terminator's first token.
-fn term_line(term: &Term) -> u32
-    ensures { result ≡ term_line term.now }
-{
-    match term {
-        Term::ReturnVoid { line }
-        | Term::Ret { line, .. }
-        | Term::Br { line, .. }
-        | Term::CondBr { line, .. }
-        | Term::Switch { line, .. }
-        | Term::Unreachable { line } => *line,
-    }
 }

@@ -1,23 +1,12 @@
 //! The parts of types that indices go into (LangRef, "'getelementptr' Instruction").
 ghost use Rattle.std.specs.Prelude.{◌≡◌, option_copied, option_map};
-ghost use Rattle.ir_geps.specs.Ranges.{field_at, part_in, part_of, written_out};
+ghost use Rattle.ir_geps.specs.Ranges.{field_at, part_in, part_of};
 ghost use Rattle.ir_syntax.specs.Types.{tree_of, trees_in};
 ghost use Rattle.ir_syntax.specs.declared.type_def.TypeDef.{TypeDef};
 
 use crate::index::GepIndex;
-use crate::named::NamedTypes;
+use ir_sizes::NamedTypes;
 use ir_syntax::{TypeTree, TypeTreeList};
-
-/// A type itself, or the struct that a name stands for.
-pub(crate) fn written_out<'a>(types: &NamedTypes<'a>, ty: &'a TypeTree) -> Option<&'a TypeTree>
-    ensures { option_map tree_of (option_copied result) ≡ written_out types.now (tree_of ty.now) }
-{
-    match ty {
-        TypeTree::Named(place) => types.body(&place.name),
-        TypeTree::Int { .. } | TypeTree::Ptr | TypeTree::Array { .. } | TypeTree::Struct { .. } =>
-            Some(ty),
-    }
-}
 
 /// The field at a place, counted from 0.
 fn field_at(fields: &TypeTreeList, place: u32) -> Option<&TypeTree>
@@ -57,6 +46,6 @@ pub(crate) fn part_of<'a, I: GepIndex>(
 ) -> Option<&'a TypeTree>
     ensures { option_map tree_of (option_copied result) ≡ part_of types.now (tree_of ty.now) (I.index index.now) }
 {
-    let ty = written_out(types, ty)?;
+    let ty = types.written_out(ty)?;
     part_in(ty, index)
 }

@@ -5,8 +5,8 @@ ghost use Rattle.ir_geps.specs.Ranges.{go_down, is_in_range, parts_in_range};
 ghost use Rattle.ir_syntax.specs.Types.{tree_of};
 
 use crate::index::GepIndex;
-use crate::named::NamedTypes;
 use crate::parts::part_of;
+use ir_sizes::NamedTypes;
 use ir_syntax::{GepParts, TyText, TypeTree};
 
 /// Whether the indices of a `getelementptr` are in range: each behind the first goes into an array, or into a struct as

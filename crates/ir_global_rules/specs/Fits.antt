@@ -1,6 +1,6 @@
 -- Initialisers of their types (LangRef, "Global Variables" and "Complex Constants").
 use Rattle.std.specs.Prelude.{ℕ, ◌-◌, Bool, true, false, ◌&&◌, nat_eq, Option, None, Some, List, length, if◌then◌else◌}
-use Rattle.ir_geps.specs.Ranges.{written_out}
+use Rattle.ir_sizes.specs.Named.{written_out}
 use Rattle.ir_global_rules.specs.Same.{same_flag, same_type}
 use Rattle.ir_syntax.specs.Inits.{InitText, value, zeros, bytes, array, struct, packed, InitTexts, end, more}
 use Rattle.ir_syntax.specs.Types as text

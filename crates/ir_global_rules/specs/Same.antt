@@ -1,6 +1,6 @@
 -- Types that are the same, where a name stands for its struct (LangRef, "Structure Type").
 use Rattle.std.specs.Prelude.{ℕ, zero, suc, Bool, true, false, ◌&&◌, ◌||◌, nat_eq, Option, None, Some, List}
-use Rattle.ir_geps.specs.Ranges.{written_out}
+use Rattle.ir_sizes.specs.Named.{written_out}
 use Rattle.ir_ident.specs.Names.{same_name}
 use Rattle.ir_sizes.specs.Sized.{level_limit}
 use Rattle.ir_syntax.specs.Types.{TextTree, int, ptr, array, struct, named, TextTrees, end, more}

@@ -5,7 +5,7 @@ ghost use Rattle.ir_syntax.specs.Inits.{init_of, inits_in};
 ghost use Rattle.ir_syntax.specs.Types.{tree_of, trees_in};
 
 use crate::same::same_type;
-use crate::types::NamedTypes;
+use ir_sizes::NamedTypes;
 use ir_syntax::{
     Global as GlobalVariable, InitTree, InitTreeList, Operand, TypeTree, TypeTreeList,
 };

@@ -5,6 +5,5 @@ mod fits;
 mod lines;
 mod same;
 mod sized;
-mod types;
 
 pub use lines::push_global_lines;

@@ -1,26 +1,17 @@
 //! The lines of the global variables and aliases that break a rule on types.
 ghost use Rattle.std.specs.Prelude.{◌≡◌, ◌++◌, OnOk};
 ghost use Rattle.std.specs.List.{flat_map};
-ghost use Rattle.ir_global_rules.specs.GlobalLines.{alias_lines, global_lines, is_aligned, lines_by, variable_lines};
+ghost use Rattle.ir_global_rules.specs.GlobalLines.{alias_lines, global_lines, lines_by, variable_lines};
 
 use crate::fits::init_fits;
 use crate::sized::{is_alias_sized, is_global_sized};
-use crate::types::NamedTypes;
+use ir_scope::is_aligned;
+use ir_sizes::NamedTypes;
 use ir_syntax::{Alias, Global as GlobalVariable, Module, push_line_if};
 use std::alloc::{AllocError, Global};
 
 /// The greatest alignment of a global variable in bytes.
 const ALIGN_LIMIT: u64 = 4096;
-
-/// Whether an alignment is a power of two up to 4,096, if one is written.
-fn is_aligned(align: Option<u64>) -> bool
-    ensures { result ≡ is_aligned align }
-{
-    match align {
-        Some(align) => align.is_power_of_two() & (align <= ALIGN_LIMIT),
-        None => true,
-    }
-}
 
 fn push_variable<'a>(
     types: &NamedTypes<'a>,
@@ -29,7 +20,7 @@ fn push_variable<'a>(
 ) -> Result<(), AllocError>
     ensures { OnOk result (lines.new.items ≡ lines.old.items ++ variable_lines types.now global.now) }
 {
-    push_line_if(lines, !is_aligned(global.align), global.line)?;
+    push_line_if(lines, !is_aligned(ALIGN_LIMIT, global.align), global.line)?;
     // Types without a size may have no end, so they are not compared.
     let fits = is_global_sized(types, global) && init_fits(types, global);
     push_line_if(lines, !fits, global.line)

@@ -3,7 +3,7 @@ ghost use Rattle.std.specs.Prelude.{◌≡◌};
 ghost use Rattle.ir_global_rules.specs.Same.{are_one_name, are_one_scalar, same_fields, same_parts, same_type, same_within};
 ghost use Rattle.ir_syntax.specs.Types.{tree_of, trees_in};
 
-use crate::types::NamedTypes;
+use ir_sizes::NamedTypes;
 use ir_syntax::{TypeTree, TypeTreeList};
 
 /// The most levels that arrays and structs may stand inside each other.

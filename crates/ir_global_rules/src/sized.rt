@@ -5,7 +5,7 @@ ghost use Rattle.ir_global_rules.specs.Sized.{base_sized, gep_sized, init_sized,
 ghost use Rattle.ir_sizes.specs.Sized.{is_sized};
 ghost use Rattle.ir_syntax.specs.Inits.{init_of, inits_in};
 
-use crate::types::NamedTypes;
+use ir_sizes::NamedTypes;
 use ir_syntax::{
     Alias, AliasBase, GepParts, Global as GlobalVariable, Init, InitTree, InitTreeList, Operand,
     TyText, TypeTexts, TypedLiteral,

@@ -1,6 +1,6 @@
 //! The names of the items of a module in the order of the text.
 ghost use Rattle.std.specs.Prelude.{◌≡◌, ◌++◌, ◌≤◌, IfOk, OnOk, drop, length, map, nat_le};
-ghost use Rattle.ir_naming.specs.Items.{alias_item, function_item, merged, named_items, variable_item};
+ghost use Rattle.ir_naming.specs.Items.{NamedItem, alias_item, function_item, merged, named_items, variable_item};
 
 use crate::item_name::ItemName;
 use ir_syntax::{Alias, Function, Global as Variable, Module};
@@ -14,54 +14,69 @@ use std::alloc::{AllocError, Global};
 pub fn item_names(alloc: Global, m: &Module) -> Result<Vec<ItemName<'_>>, AllocError>
     ensures { IfOk result (λ names. names.items ≡ named_items m.now) }
 {
-    let variables = variable_names(alloc, m.globals.as_slice())?;
-    let functions = function_names(alloc, m.functions.as_slice())?;
-    let aliases = alias_names(alloc, m.aliases.as_slice())?;
+    let variables = names_of(alloc, m.globals.as_slice())?;
+    let functions = names_of(alloc, m.functions.as_slice())?;
+    let aliases = names_of(alloc, m.aliases.as_slice())?;
     let rest = merged(alloc, functions.as_slice(), aliases.as_slice())?;
     merged(alloc, variables.as_slice(), rest.as_slice())
 }
 
-fn variable_names(alloc: Global, variables: &[Variable]) -> Result<Vec<ItemName<'_>>, AllocError>
-    ensures { IfOk result (λ names. names.items ≡ map variable_item variables.now) }
-{
-    let mut names = Vec::with_capacity(alloc, variables.len())?;
-    for variable in variables {
-        names.push(ItemName {
-            place: variable.place,
-            line: variable.line,
-            defined: variable.init.is_some(),
-            name: &variable.name,
-        })?;
-    }
-    Ok(names)
+/// An item that has a name.
+trait Named {
+    /// Its name, and what is known of it.
+    ghost item: { Self → NamedItem };
+
+    /// Its name, and what is known of it.
+    fn item_name(&self) -> ItemName<'_>
+        ensures { result ≡ item self.now };
 }
 
-fn function_names(alloc: Global, functions: &[Function]) -> Result<Vec<ItemName<'_>>, AllocError>
-    ensures { IfOk result (λ names. names.items ≡ map function_item functions.now) }
-{
-    let mut names = Vec::with_capacity(alloc, functions.len())?;
-    for function in functions {
-        names.push(ItemName {
-            place: function.place,
-            line: function.line,
-            defined: function.blocks.is_some(),
-            name: &function.name,
-        })?;
+impl Named for Variable {
+    ghost item = { variable_item };
+
+    fn item_name(&self) -> ItemName<'_> {
+        ItemName {
+            place: self.place,
+            line: self.line,
+            defined: self.init.is_some(),
+            name: &self.name,
+        }
     }
-    Ok(names)
 }
 
-fn alias_names(alloc: Global, aliases: &[Alias]) -> Result<Vec<ItemName<'_>>, AllocError>
-    ensures { IfOk result (λ names. names.items ≡ map alias_item aliases.now) }
-{
-    let mut names = Vec::with_capacity(alloc, aliases.len())?;
-    for alias in aliases {
-        names.push(ItemName {
-            place: alias.place,
-            line: alias.line,
+impl Named for Function {
+    ghost item = { function_item };
+
+    fn item_name(&self) -> ItemName<'_> {
+        ItemName {
+            place: self.place,
+            line: self.line,
+            defined: self.blocks.is_some(),
+            name: &self.name,
+        }
+    }
+}
+
+impl Named for Alias {
+    ghost item = { alias_item };
+
+    fn item_name(&self) -> ItemName<'_> {
+        ItemName {
+            place: self.place,
+            line: self.line,
             defined: true,
-            name: &alias.name,
-        })?;
+            name: &self.name,
+        }
+    }
+}
+
+/// The names of these items.
+fn names_of<T: Named>(alloc: Global, items: &[T]) -> Result<Vec<ItemName<'_>>, AllocError>
+    ensures { IfOk result (λ names. names.items ≡ map T.item items.now) }
+{
+    let mut names = Vec::with_capacity(alloc, items.len())?;
+    for item in items {
+        names.push(item.item_name())?;
     }
     Ok(names)
 }

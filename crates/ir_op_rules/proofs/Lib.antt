@@ -1,1 +1,1 @@
-pub mod LayoutLemmas
+pub mod LocalLemmas

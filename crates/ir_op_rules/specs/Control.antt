@@ -1,5 +1,5 @@
 -- Types of phis and terminators (LangRef, "'phi' Instruction" and "Terminator Instructions").
-use Rattle.std.specs.Prelude.{ℕ, Bool, true, ◌&&◌, Option, is_none, List}
+use Rattle.std.specs.Prelude.{Bool, true, ◌&&◌, Option, is_none, List}
 use Rattle.std.specs.List.{list_all}
 use Rattle.ir_ident.specs.declared.name.Name.{Name}
 use Rattle.ir_op_rules.specs.Values.{are_same, condition_fits, int_fits, is_value_type}
@@ -33,11 +33,3 @@ term_fits locals result (Br line target) = true
 term_fits locals result (CondBr line ty condition then_target else_target) = condition_fits locals ty condition
 term_fits locals result (Switch line ty value default cases) = switch_fits locals ty value cases
 term_fits locals result (Unreachable line) = true
-
-abbrev pub term_line : Term → ℕ
-term_line (ReturnVoid line) = line
-term_line (Ret line ty value) = line
-term_line (Br line target) = line
-term_line (CondBr line ty condition then_target else_target) = line
-term_line (Switch line ty value default cases) = line
-term_line (Unreachable line) = line

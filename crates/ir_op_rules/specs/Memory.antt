@@ -1,9 +1,9 @@
 -- Types and alignments of the operations on memory (LangRef, "Memory Access and Addressing Operations").
-use Rattle.std.specs.Prelude.{ℕ, Bool, true, ◌&&◌, nat_le, Option, None, Some, List}
-use Rattle.std.specs.Int.{is_power_of_two}
+use Rattle.std.specs.Prelude.{ℕ, Bool, true, ◌&&◌, Option, None, Some, List}
 use Rattle.std.specs.List.{list_all}
 use Rattle.ir_ident.specs.declared.name.Name.{Name}
 use Rattle.ir_op_rules.specs.Values.{address_fits, int_fits, is_int, is_value_type}
+use Rattle.ir_scope.specs.Alignments.{is_aligned}
 use Rattle.ir_scope.specs.Operands.{value_fits}
 use Rattle.ir_scope.specs.declared.scalar.Scalar.{Scalar}
 use Rattle.ir_syntax.specs.Types.{TextTree}
@@ -18,11 +18,6 @@ access_align_limit = 9223372036854775808
 -- the greatest alignment of an `alloca`
 abbrev pub alloca_align_limit : ℕ
 alloca_align_limit = 16
-
--- an alignment that is written is a power of two up to a limit
-abbrev pub is_aligned : ℕ → Option ℕ → Bool
-is_aligned limit None = true
-is_aligned limit (Some align) = is_power_of_two align && nat_le align limit
 
 -- an address, and indices that are integers
 abbrev pub gep_fits : (Name → Option Scalar) → TextTree → Operand → List TypedOperand → Bool

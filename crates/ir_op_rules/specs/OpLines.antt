@@ -4,14 +4,15 @@ use Rattle.std.specs.List.{flat_map, list_all}
 use Rattle.ir_ident.specs.declared.name.Name.{Name}
 use Rattle.ir_op_rules.specs.Arithmetic.{binary_fits, choice_fits, pair_fits}
 use Rattle.ir_op_rules.specs.Casts.{cast_fits}
-use Rattle.ir_op_rules.specs.Control.{phi_fits, term_fits, term_line}
+use Rattle.ir_op_rules.specs.Control.{phi_fits, term_fits}
 use Rattle.ir_op_rules.specs.Memory.{alloca_fits, gep_fits, load_fits, store_fits}
-use Rattle.ir_op_rules.specs.Sizes.{are_sized, has_sizes, layout_in}
+use Rattle.ir_op_rules.specs.Sizes.{are_sized, has_sizes}
 use Rattle.ir_op_rules.specs.Switches.{cases_differ}
 use Rattle.ir_op_rules.specs.Values.{condition_fits, is_value_type}
 use Rattle.ir_scope.specs.Locals.{local_scalar}
 use Rattle.ir_scope.specs.Operands.{value_fits}
 use Rattle.ir_scope.specs.declared.scalar.Scalar.{Scalar}
+use Rattle.ir_sizes.specs.Sized.{layout_in}
 use Rattle.ir_syntax.specs.Lines.{line_if}
 use Rattle.ir_syntax.specs.Types.{TextTree}
 use Rattle.ir_syntax.specs.declared.block.Block.{Block}
@@ -24,6 +25,7 @@ use Rattle.ir_syntax.specs.declared.phi.Phi.{Phi}
 use Rattle.ir_syntax.specs.declared.term.Term.{Term}
 use Rattle.ir_walk.specs.Parts.{phi_parts, term_parts}
 use Rattle.ty_core.specs.declared.extent.Layout.{Layout}
+use Rattle.ir_syntax.specs.Terms.{term_line}
 
 -- the types and alignments that an operation states, where `locals` has the types of local names
 abbrev pub op_fits : (Name → Option Scalar) → Op → Bool

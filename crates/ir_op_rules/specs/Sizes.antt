@@ -1,29 +1,16 @@
 -- Sizes of the types that instructions write, and of what an `alloca` gives (LangRef, "Data Layout" and "'alloca' Instruction").
-use Rattle.std.specs.Prelude.{ℕ, ◌*◌, Bool, true, false, ◌&&◌, nat_le, Option, None, Some, is_some, List, [], ◌∷◌, map, option_map, if◌then◌else◌}
+use Rattle.std.specs.Prelude.{ℕ, ◌*◌, Bool, true, false, ◌&&◌, nat_le, Option, None, Some, is_some, List, [], ◌∷◌, map, option_map}
 use Rattle.std.specs.List.{flat_map, list_all}
-use Rattle.ir_op_rules.specs.Switches.{width_of, wrapped}
-use Rattle.ir_sizes.specs.Measured.{known_by, measured}
-use Rattle.ir_sizes.specs.Sized.{is_sized, level_limit, replaced}
-use Rattle.ir_sizes.specs.declared.table.Table.{Table}
-use Rattle.ir_syntax.specs.Literals.{literal_value}
+use Rattle.ir_syntax.specs.Literals.{width_of, wrapped}
 use Rattle.ir_syntax.specs.Types.{TextTree}
 use Rattle.ir_syntax.specs.declared.instr.Op.{Op}
 use Rattle.ir_syntax.specs.declared.instr.Op.TheVariants.{Alloca}
 use Rattle.ir_syntax.specs.declared.operand.Operand.{Operand}
 use Rattle.ir_syntax.specs.declared.operand.Operand.TheVariants.{Gep}
 use Rattle.ir_syntax.specs.declared.operand.TypedLiteral.{TypedLiteral}
-use Rattle.ir_syntax.specs.declared.type_def.TypeDef.{TypeDef}
 use Rattle.ir_walk.specs.Parts.{Part, type_part, operand_part, callee_part, label_part, op_parts}
-use Rattle.ty_core.specs.Size.{layout_of, rounded, size_limit}
+use Rattle.ty_core.specs.Size.{rounded, size_limit}
 use Rattle.ty_core.specs.declared.extent.Layout.{Layout}
-
--- the layout of a type that has a size
-abbrev pub layout_in : List TypeDef → TextTree → Option Layout
-layout_in defs ty = if is_sized defs ty then option_map layout_of (replaced defs level_limit ty) else None
-
--- the same as a table knows it
-abbrev pub layout_by : Table → TextTree → Option Layout
-layout_by table ty = option_map (λ e. e.layout) (measured (known_by table) level_limit ty)
 
 -- the types that a constant address writes
 abbrev pub operand_types : Operand → List TextTree
@@ -44,7 +31,7 @@ are_sized layouts parts = list_all (λ ty. is_some (layouts ty)) (flat_map types
 -- the number of elements of an `alloca`, a literal as a number of its type; one where none is written
 abbrev pub count_of : Option TypedLiteral → Option ℕ
 count_of None = Some 1
-count_of (Some count) = option_map (λ bits. wrapped bits (literal_value count.value)) (width_of count.ty)
+count_of (Some count) = option_map (λ bits. wrapped bits count.value) (width_of count.ty)
 
 -- the size of so many elements of a layout, each of which takes its size up to a multiple of its alignment
 abbrev pub alloca_size : Layout → ℕ → ℕ

@@ -1,25 +1,10 @@
--- The values of a `switch`, and literals as numbers of a width (LangRef, "'switch' Instruction" and "Simple Constants").
-use Rattle.std.specs.Prelude.{ℕ, ◌-◌, ◌%◌, ◌^◌, ℤ, pos, negsuc, Bool, true, false, ◌&&◌, not, nat_eq, nat_le, Option, None, Some, List, [], ◌∷◌, ◌++◌, map, if◌then◌else◌}
+-- The values of a `switch` (LangRef, "'switch' Instruction").
+use Rattle.std.specs.Prelude.{ℕ, Bool, true, false, ◌&&◌, not, nat_eq, Option, None, Some, List, [], ◌∷◌, ◌++◌, map}
 use Rattle.std.specs.List.{list_any}
-use Rattle.ir_syntax.specs.Literals.{literal_value}
-use Rattle.ir_syntax.specs.Types.{TextTree, int}
+use Rattle.ir_syntax.specs.Literals.{width_of, wrapped}
 use Rattle.ir_syntax.specs.declared.term.Case.{Case}
 use Rattle.ir_syntax.specs.declared.term.Term.{Term}
 use Rattle.ir_syntax.specs.declared.term.Term.TheVariants.{ReturnVoid, Ret, Br, CondBr, Switch, Unreachable}
-
--- a whole number modulo 2 to a number of bits
-abbrev pub wrapped : ℕ → ℤ → ℕ
-wrapped bits (pos n) = n % 2 ^ bits
-wrapped bits (negsuc n) = 2 ^ bits - 1 - n % 2 ^ bits
-
--- the widest integers that the grammar has
-abbrev pub widest : ℕ
-widest = 64
-
--- the number of bits of an integer type
-abbrev pub width_of : TextTree → Option ℕ
-width_of (int bits) = if nat_le bits widest then Some bits else None
-width_of other = None
 
 -- none of these is equal to one before it, or among those of `before`
 abbrev pub differ_after : List ℕ → List ℕ → Bool
@@ -32,7 +17,7 @@ all_differ xs = differ_after [] xs
 
 -- the values of cases at a width
 abbrev pub case_values : ℕ → List Case → List ℕ
-case_values bits cases = map (λ c. wrapped bits (literal_value c.value)) cases
+case_values bits cases = map (λ c. wrapped bits c.value) cases
 
 abbrev pub differ_at : Option ℕ → List Case → Bool
 differ_at None cases = false

@@ -2,10 +2,11 @@
 ghost use Rattle.std.specs.Prelude.{◌≡◌};
 ghost use Rattle.std.specs.List.{list_all};
 ghost use Rattle.ir_ident.specs.NameMaps.{value_of};
-ghost use Rattle.ir_op_rules.specs.Control.{phi_fits, ret_fits, switch_fits, term_fits, term_line};
+ghost use Rattle.ir_op_rules.specs.Control.{phi_fits, ret_fits, switch_fits, term_fits};
 ghost use Rattle.ir_op_rules.specs.Values.{are_same};
 ghost use Rattle.ir_scope.specs.Operands.{value_fits};
 ghost use Rattle.ir_scope.specs.Scalars.{scalar_of};
+ghost use Rattle.ir_syntax.specs.Terms.{term_line};
 
 use crate::values::{are_same, condition_fits, int_fits, is_value_type};
 use ir_ident::NameMap;
@@ -75,19 +76,5 @@ pub(crate) fn term_fits(
             cases,
             ..
         } => switch_fits(locals, ty, value, cases.as_slice()),
-    }
-}
-
-/// The line of a terminator's first token.
-pub(crate) fn term_line(term: &Term) -> u32
-    ensures { result ≡ term_line term.now }
-{
-    match term {
-        Term::ReturnVoid { line }
-        | Term::Ret { line, .. }
-        | Term::Br { line, .. }
-        | Term::CondBr { line, .. }
-        | Term::Switch { line, .. }
-        | Term::Unreachable { line } => *line,
     }
 }

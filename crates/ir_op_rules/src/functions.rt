@@ -2,15 +2,14 @@
 ghost use Rattle.std.specs.Prelude.{◌≡◌, ◌++◌, OnOk};
 ghost use Rattle.std.specs.List.{flat_map, list_all};
 ghost use Rattle.ir_op_rules.specs.OpLines.{body_lines, function_lines, is_valued, op_lines, signature_fits};
-ghost use Rattle.ir_op_rules.specs.Sizes.{layout_by};
+ghost use Rattle.ir_sizes.specs.Sized.{layout_in};
 ghost use Rattle.ir_scope.specs.Locals.{local_scalar};
-ghost use Rattle.ir_sizes.specs.Measured.{AreExtents};
 
 use crate::parts::push_body;
 use crate::scope::Scope;
 use crate::values::is_value_type;
 use ir_scope::local_scalars;
-use ir_sizes::{Table, table_of};
+use ir_sizes::NamedTypes;
 use ir_syntax::{Function, Module, Param, TyText, push_line_if};
 use std::alloc::{AllocError, Global};
 
@@ -39,18 +38,17 @@ fn signature_fits(function: &Function) -> bool
 /// Adds the lines of the phis, instructions and terminators of a function that break a rule.
 fn push_parts(
     alloc: Global,
-    table: &Table<'_>,
+    types: &NamedTypes<'_>,
     lines: &mut Vec<u32>,
     function: &Function,
 ) -> Result<(), AllocError>
-    requires { AreExtents table.now.extents.items }
     ensures { OnOk result (lines.new.items
-        ≡ lines.old.items ++ body_lines (local_scalar function.now) (layout_by table.now) function.now.result function.now.blocks) }
+        ≡ lines.old.items ++ body_lines (local_scalar function.now) (layout_in types.now) function.now.result function.now.blocks) }
 {
     let locals = local_scalars(alloc, function)?;
     let scope = Scope {
         locals: &locals,
-        table,
+        types,
         returned: &function.result,
     };
     push_body(alloc, &scope, lines, &function.blocks)
@@ -58,28 +56,26 @@ fn push_parts(
 
 fn push_function(
     alloc: Global,
-    table: &Table<'_>,
+    types: &NamedTypes<'_>,
     lines: &mut Vec<u32>,
     function: &Function,
 ) -> Result<(), AllocError>
-    requires { AreExtents table.now.extents.items }
-    ensures { OnOk result (lines.new.items ≡ lines.old.items ++ function_lines (layout_by table.now) function.now) }
+    ensures { OnOk result (lines.new.items ≡ lines.old.items ++ function_lines (layout_in types.now) function.now) }
 {
     push_line_if(lines, !signature_fits(function), function.line)?;
-    push_parts(alloc, table, lines, function)
+    push_parts(alloc, types, lines, function)
 }
 
 fn push_functions(
     alloc: Global,
-    table: &Table<'_>,
+    types: &NamedTypes<'_>,
     lines: &mut Vec<u32>,
     functions: &[Function],
 ) -> Result<(), AllocError>
-    requires { AreExtents table.now.extents.items }
-    ensures { OnOk result (lines.new.items ≡ lines.old.items ++ flat_map (function_lines (layout_by table.now)) functions.now) }
+    ensures { OnOk result (lines.new.items ≡ lines.old.items ++ flat_map (function_lines (layout_in types.now)) functions.now) }
 {
     for function in functions {
-        push_function(alloc, table, lines, function)?;
+        push_function(alloc, types, lines, function)?;
     }
     Ok(())
 }
@@ -95,6 +91,6 @@ fn push_functions(
 pub fn push_op_lines(alloc: Global, m: &Module, lines: &mut Vec<u32>) -> Result<(), AllocError>
     ensures { OnOk result (lines.new.items ≡ lines.old.items ++ op_lines m.now) }
 {
-    let table = table_of(alloc, m.types.as_slice())?;
-    push_functions(alloc, &table, lines, m.functions.as_slice())
+    let types = NamedTypes::new(alloc, m.types.as_slice())?;
+    push_functions(alloc, &types, lines, m.functions.as_slice())
 }

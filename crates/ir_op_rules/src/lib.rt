@@ -6,7 +6,6 @@ mod arithmetic;
 mod casts;
 mod control;
 mod functions;
-mod literals;
 mod memory;
 mod ops;
 mod parts;
@@ -17,6 +16,5 @@ mod values;
 mod written;
 
 pub use functions::push_op_lines;
-pub use literals::wrapped;
 pub use memory::is_access_aligned;
 pub use values::are_same;

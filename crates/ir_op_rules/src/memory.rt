@@ -2,28 +2,19 @@
 ghost use Rattle.std.specs.Prelude.{◌≡◌};
 ghost use Rattle.std.specs.List.{list_all};
 ghost use Rattle.ir_ident.specs.NameMaps.{value_of};
-ghost use Rattle.ir_op_rules.specs.Memory.{access_align_limit, alloca_fits, counts_by_int, gep_fits, is_aligned, load_fits, store_fits};
+ghost use Rattle.ir_op_rules.specs.Memory.{access_align_limit, alloca_fits, counts_by_int, gep_fits, load_fits, store_fits};
 ghost use Rattle.ir_op_rules.specs.Values.{int_fits};
+ghost use Rattle.ir_scope.specs.Alignments.{is_aligned};
 
 use crate::values::{address_fits, int_fits, is_int, is_value_type};
 use ir_ident::NameMap;
-use ir_scope::{Scalar, value_fits};
+use ir_scope::{Scalar, is_aligned, value_fits};
 use ir_syntax::{Operand, TyText, TypedLiteral, TypedOperand};
 
 /// The greatest alignment of an access in bytes.
 const ACCESS_ALIGN_LIMIT: u64 = 1 << 63;
 /// The greatest alignment of an `alloca` in bytes.
 const ALLOCA_ALIGN_LIMIT: u64 = 16;
-
-/// Whether an alignment is a power of two up to a limit, if one is written.
-fn is_aligned(limit: u64, align: Option<u64>) -> bool
-    ensures { result ≡ is_aligned limit align }
-{
-    match align {
-        Some(align) => align.is_power_of_two() & (align <= limit),
-        None => true,
-    }
-}
 
 /// Whether an alignment of an access is a power of two from 1 to 2^63, if one is written.
 pub fn is_access_aligned(align: Option<u64>) -> bool

@@ -3,10 +3,9 @@ ghost use Rattle.std.specs.Prelude.{◌≡◌, ◌++◌, OnOk};
 ghost use Rattle.std.specs.List.{flat_map};
 ghost use Rattle.ir_ident.specs.NameMaps.{value_of};
 ghost use Rattle.ir_op_rules.specs.OpLines.{block_lines, body_lines, instr_lines, phi_lines, term_lines};
-ghost use Rattle.ir_op_rules.specs.Sizes.{layout_by};
-ghost use Rattle.ir_sizes.specs.Measured.{AreExtents};
+ghost use Rattle.ir_sizes.specs.Sized.{layout_in};
 
-use crate::control::{phi_fits, term_fits, term_line};
+use crate::control::{phi_fits, term_fits};
 use crate::ops::instr_fits;
 use crate::scope::Scope;
 use crate::sizes::{are_sized, has_sizes};
@@ -20,11 +19,10 @@ fn push_phi(
     lines: &mut Vec<u32>,
     phi: &Phi,
 ) -> Result<(), AllocError>
-    requires { AreExtents scope.now.table.now.extents.items }
-    ensures { OnOk result (lines.new.items ≡ lines.old.items ++ phi_lines (value_of scope.now.locals.now) (layout_by scope.now.table.now) phi.now) }
+    ensures { OnOk result (lines.new.items ≡ lines.old.items ++ phi_lines (value_of scope.now.locals.now) (layout_in scope.now.types.now) phi.now) }
 {
     push_line_if(lines, !phi_fits(scope.locals, phi), phi.line)?;
-    let sized = are_sized(alloc, scope.table, phi)?;
+    let sized = are_sized(alloc, scope.types, phi)?;
     push_line_if(lines, !sized, phi.line)
 }
 
@@ -34,8 +32,7 @@ fn push_phis(
     lines: &mut Vec<u32>,
     phis: &[Phi],
 ) -> Result<(), AllocError>
-    requires { AreExtents scope.now.table.now.extents.items }
-    ensures { OnOk result (lines.new.items ≡ lines.old.items ++ flat_map (phi_lines (value_of scope.now.locals.now) (layout_by scope.now.table.now)) phis.now) }
+    ensures { OnOk result (lines.new.items ≡ lines.old.items ++ flat_map (phi_lines (value_of scope.now.locals.now) (layout_in scope.now.types.now)) phis.now) }
 {
     for phi in phis {
         push_phi(alloc, scope, lines, phi)?;
@@ -49,11 +46,10 @@ fn push_instr(
     lines: &mut Vec<u32>,
     instr: &Instr,
 ) -> Result<(), AllocError>
-    requires { AreExtents scope.now.table.now.extents.items }
-    ensures { OnOk result (lines.new.items ≡ lines.old.items ++ instr_lines (value_of scope.now.locals.now) (layout_by scope.now.table.now) instr.now) }
+    ensures { OnOk result (lines.new.items ≡ lines.old.items ++ instr_lines (value_of scope.now.locals.now) (layout_in scope.now.types.now) instr.now) }
 {
     push_line_if(lines, !instr_fits(scope.locals, instr), instr.line)?;
-    let sized = has_sizes(alloc, scope.table, &instr.op)?;
+    let sized = has_sizes(alloc, scope.types, &instr.op)?;
     push_line_if(lines, !sized, instr.line)
 }
 
@@ -63,8 +59,7 @@ fn push_instrs(
     lines: &mut Vec<u32>,
     instrs: &[Instr],
 ) -> Result<(), AllocError>
-    requires { AreExtents scope.now.table.now.extents.items }
-    ensures { OnOk result (lines.new.items ≡ lines.old.items ++ flat_map (instr_lines (value_of scope.now.locals.now) (layout_by scope.now.table.now)) instrs.now) }
+    ensures { OnOk result (lines.new.items ≡ lines.old.items ++ flat_map (instr_lines (value_of scope.now.locals.now) (layout_in scope.now.types.now)) instrs.now) }
 {
     for instr in instrs {
         push_instr(alloc, scope, lines, instr)?;
@@ -78,15 +73,14 @@ fn push_term(
     lines: &mut Vec<u32>,
     term: &Term,
 ) -> Result<(), AllocError>
-    requires { AreExtents scope.now.table.now.extents.items }
     ensures { OnOk result (lines.new.items
-        ≡ lines.old.items ++ term_lines (value_of scope.now.locals.now) (layout_by scope.now.table.now) scope.now.returned.now term.now) }
+        ≡ lines.old.items ++ term_lines (value_of scope.now.locals.now) (layout_in scope.now.types.now) scope.now.returned.now term.now) }
 {
-    let line = term_line(term);
+    let line = term.line();
     push_line_if(lines, !term_fits(scope.locals, scope.returned, term), line)?;
     let differ = cases_differ(alloc, term)?;
     push_line_if(lines, !differ, line)?;
-    let sized = are_sized(alloc, scope.table, term)?;
+    let sized = are_sized(alloc, scope.types, term)?;
     push_line_if(lines, !sized, line)
 }
 
@@ -96,9 +90,8 @@ fn push_block(
     lines: &mut Vec<u32>,
     block: &Block,
 ) -> Result<(), AllocError>
-    requires { AreExtents scope.now.table.now.extents.items }
     ensures { OnOk result (lines.new.items
-        ≡ lines.old.items ++ block_lines (value_of scope.now.locals.now) (layout_by scope.now.table.now) scope.now.returned.now block.now) }
+        ≡ lines.old.items ++ block_lines (value_of scope.now.locals.now) (layout_in scope.now.types.now) scope.now.returned.now block.now) }
 {
     push_phis(alloc, scope, lines, block.phis.as_slice())?;
     push_instrs(alloc, scope, lines, block.instrs.as_slice())?;
@@ -111,9 +104,8 @@ fn push_blocks(
     lines: &mut Vec<u32>,
     blocks: &[Block],
 ) -> Result<(), AllocError>
-    requires { AreExtents scope.now.table.now.extents.items }
     ensures { OnOk result (lines.new.items
-        ≡ lines.old.items ++ flat_map (block_lines (value_of scope.now.locals.now) (layout_by scope.now.table.now) scope.now.returned.now) blocks.now) }
+        ≡ lines.old.items ++ flat_map (block_lines (value_of scope.now.locals.now) (layout_in scope.now.types.now) scope.now.returned.now) blocks.now) }
 {
     for block in blocks {
         push_block(alloc, scope, lines, block)?;
@@ -132,9 +124,8 @@ pub(crate) fn push_body(
     lines: &mut Vec<u32>,
     blocks: &Option<Blocks>,
 ) -> Result<(), AllocError>
-    requires { AreExtents scope.now.table.now.extents.items }
     ensures { OnOk result (lines.new.items
-        ≡ lines.old.items ++ body_lines (value_of scope.now.locals.now) (layout_by scope.now.table.now) scope.now.returned.now blocks.now) }
+        ≡ lines.old.items ++ body_lines (value_of scope.now.locals.now) (layout_in scope.now.types.now) scope.now.returned.now blocks.now) }
 {
     match blocks {
         Some(blocks) => push_blocks(alloc, scope, lines, blocks.as_slice()),

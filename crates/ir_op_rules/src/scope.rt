@@ -1,7 +1,7 @@
 //! What the rules on the parts of one function look up.
 use ir_ident::NameMap;
 use ir_scope::Scalar;
-use ir_sizes::Table;
+use ir_sizes::NamedTypes;
 use ir_syntax::TyText;
 
 /// What the names in a function stand for, and what it returns.
@@ -9,8 +9,8 @@ use ir_syntax::TyText;
 pub(crate) struct Scope<'a> {
     /// The types of local names.
     pub(crate) locals: &'a NameMap<'a, Scalar>,
-    /// The extents of named types.
-    pub(crate) table: &'a Table<'a>,
+    /// The named types.
+    pub(crate) types: &'a NamedTypes<'a>,
     /// The type of what the function returns; none for `void`.
     pub(crate) returned: &'a Option<TyText>,
 }

@@ -1,13 +1,12 @@
 //! Sizes of the types that instructions write, and of what an `alloca` gives (LangRef, "Data Layout" and "'alloca' Instruction").
 ghost use Rattle.std.specs.Prelude.{◌≡◌, ◌≤◌, IfOk, IfSome, is_some, nat_le};
 ghost use Rattle.std.specs.List.{list_all};
-ghost use Rattle.ir_op_rules.specs.Sizes.{alloca_size, are_sized, count_of, has_sizes, is_small_alloca, is_within, layout_by};
-ghost use Rattle.ir_sizes.specs.Measured.{AreExtents};
+ghost use Rattle.ir_op_rules.specs.Sizes.{alloca_size, are_sized, count_of, has_sizes, is_small_alloca, is_within};
+ghost use Rattle.ir_sizes.specs.Sized.{layout_in};
 ghost use Rattle.ty_core.specs.Size.{IsAlign, rounded, size_limit};
 
-use crate::literals::{width_of, wrapped};
 use crate::written::{Written, WrittenTypes};
-use ir_sizes::{Table, extent_of};
+use ir_sizes::NamedTypes;
 use ir_syntax::{Op, TyText, TypedLiteral};
 use ir_walk::Walk;
 use std::alloc::{AllocError, Global};
@@ -16,29 +15,16 @@ use ty_core::Layout;
 /// The most bytes that an `alloca` may take.
 const SIZE_LIMIT: u128 = 0xffff_ffff;
 
-/// The layout of a type that has a size.
-fn layout_by(table: &Table<'_>, ty: &TyText) -> Option<Layout>
-    requires { AreExtents table.now.extents.items }
-    ensures value { result ≡ layout_by table.now ty.now }
-    ensures small { IfSome result (λ layout. layout.size ≤ size_limit) }
-    ensures aligned { IfSome result (λ layout. IsAlign layout.align) }
+fn is_sized(types: &NamedTypes<'_>, ty: &TyText) -> bool
+    ensures { result ≡ is_some (layout_in types.now ty.now) }
 {
-    let extent = extent_of(table, ty)?;
-    Some(extent.layout)
+    types.layout(ty.tree()).is_some()
 }
 
-fn is_sized(table: &Table<'_>, ty: &TyText) -> bool
-    requires { AreExtents table.now.extents.items }
-    ensures { result ≡ is_some (layout_by table.now ty.now) }
+fn all_sized(types: &NamedTypes<'_>, written: &[Written<'_>]) -> bool
+    ensures { result ≡ list_all (λ ty. is_some (layout_in types.now ty)) written.now }
 {
-    layout_by(table, ty).is_some()
-}
-
-fn all_sized(table: &Table<'_>, types: &[Written<'_>]) -> bool
-    requires { AreExtents table.now.extents.items }
-    ensures { result ≡ list_all (λ ty. is_some (layout_by table.now ty)) types.now }
-{
-    types.iter().all(|written| is_sized(table, written.ty))
+    written.iter().all(|one| is_sized(types, one.ty))
 }
 
 /// Whether all types have a size that a part of a function writes.
@@ -48,15 +34,14 @@ fn all_sized(table: &Table<'_>, types: &[Written<'_>]) -> bool
 /// [`AllocError`].
 pub(crate) fn are_sized<'a, T: Walk<'a, WrittenTypes<'a>>>(
     alloc: Global,
-    table: &Table<'_>,
+    types: &NamedTypes<'_>,
     item: &'a T,
 ) -> Result<bool, AllocError>
-    requires { AreExtents table.now.extents.items }
-    ensures { IfOk result (λ sized. sized ≡ are_sized (layout_by table.now) (T.parts item.now)) }
+    ensures { IfOk result (λ sized. sized ≡ are_sized (layout_in types.now) (T.parts item.now)) }
 {
     let mut written = WrittenTypes::new(alloc);
     item.walk(&mut written)?;
-    Ok(all_sized(table, written.types.as_slice()))
+    Ok(all_sized(types, written.types.as_slice()))
 }
 
 /// The number of elements of an `alloca`; none where its type is not one of integers.
@@ -65,8 +50,8 @@ fn count_of(count: &Option<TypedLiteral>) -> Option<u128>
 {
     match count {
         Some(count) => {
-            let bits = width_of(&count.ty)?;
-            Some(wrapped(bits, count.value))
+            let bits = count.ty.width()?;
+            Some(count.value.wrapped(bits))
         }
         None => Some(1),
     }
@@ -105,12 +90,11 @@ fn is_small_alloca(each: Option<Layout>, count: Option<u128>) -> bool
 }
 
 /// Whether an operation takes few enough bytes where it is an `alloca`.
-fn is_within(table: &Table<'_>, op: &Op) -> bool
-    requires { AreExtents table.now.extents.items }
-    ensures { result ≡ is_within (layout_by table.now) op.now }
+fn is_within(types: &NamedTypes<'_>, op: &Op) -> bool
+    ensures { result ≡ is_within (layout_in types.now) op.now }
 {
     match op {
-        Op::Alloca { ty, count, .. } => is_small_alloca(layout_by(table, ty), count_of(count)),
+        Op::Alloca { ty, count, .. } => is_small_alloca(types.layout(ty.tree()), count_of(count)),
         _ => true,
     }
 }
@@ -120,10 +104,9 @@ fn is_within(table: &Table<'_>, op: &Op) -> bool
 /// # Errors
 ///
 /// [`AllocError`].
-pub(crate) fn has_sizes(alloc: Global, table: &Table<'_>, op: &Op) -> Result<bool, AllocError>
-    requires { AreExtents table.now.extents.items }
-    ensures { IfOk result (λ sized. sized ≡ has_sizes (layout_by table.now) op.now) }
+pub(crate) fn has_sizes(alloc: Global, types: &NamedTypes<'_>, op: &Op) -> Result<bool, AllocError>
+    ensures { IfOk result (λ sized. sized ≡ has_sizes (layout_in types.now) op.now) }
 {
-    let sized = are_sized(alloc, table, op)?;
-    Ok(sized & is_within(table, op))
+    let sized = are_sized(alloc, types, op)?;
+    Ok(sized & is_within(types, op))
 }

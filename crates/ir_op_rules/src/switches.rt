@@ -2,7 +2,6 @@
 ghost use Rattle.std.specs.Prelude.{◌≡◌, ◌≤◌, IfOk, IfSome};
 ghost use Rattle.ir_op_rules.specs.Switches.{all_differ, case_values, cases_differ, differ_at};
 
-use crate::literals::{width_of, wrapped};
 use indexmap::IndexSet;
 use ir_syntax::{Case, Term};
 use std::alloc::{AllocError, Global};
@@ -17,7 +16,7 @@ pub(crate) fn cases_differ(alloc: Global, term: &Term) -> Result<bool, AllocErro
     ensures { IfOk result (λ differ. differ ≡ cases_differ term.now) }
 {
     match term {
-        Term::Switch { ty, cases, .. } => differ_at(alloc, width_of(ty), cases.as_slice()),
+        Term::Switch { ty, cases, .. } => differ_at(alloc, ty.width(), cases.as_slice()),
         Term::ReturnVoid { .. }
         | Term::Ret { .. }
         | Term::Br { .. }
@@ -43,7 +42,7 @@ fn all_differ(alloc: Global, bits: u8, cases: &[Case]) -> Result<bool, AllocErro
 {
     let mut seen = IndexSet::new(alloc);
     for case in cases {
-        let is_new = seen.insert(wrapped(bits, case.value))?;
+        let is_new = seen.insert(case.value.wrapped(bits))?;
         if !is_new {
             return Ok(false);
         }

@@ -1,5 +1,5 @@
 -- Values of operands that are equal by what the text writes.
-use Rattle.std.specs.Prelude.{ℕ, ◌-◌, ◌%◌, ◌^◌, Bool, true, false, ◌&&◌, ◌||◌, not, nat_eq, nat_le, Option, None, Some, List, [], ◌∷◌, if◌then◌else◌}
+use Rattle.std.specs.Prelude.{ℕ, Bool, true, false, ◌&&◌, ◌||◌, not, nat_eq, Option, None, Some, List, [], ◌∷◌}
 use Rattle.ir_ident.specs.Names.{same_name}
 use Rattle.ir_syntax.specs.Types.{TextTree, TextTrees, int, ptr, array, struct, named, end, more}
 use Rattle.ir_syntax.specs.declared.literal.Literal.{Literal}
@@ -7,15 +7,7 @@ use Rattle.ir_syntax.specs.declared.operand.ConstantGep.{ConstantGep}
 use Rattle.ir_syntax.specs.declared.operand.Operand.{Operand}
 use Rattle.ir_syntax.specs.declared.operand.Operand.TheVariants.{Local, Global, Int, True, False, Null, Undef, Poison, Gep}
 use Rattle.ir_syntax.specs.declared.operand.TypedLiteral.{TypedLiteral}
-
--- the width of an integer type; it has at most 64 bits
-abbrev pub width_of : TextTree → Option ℕ
-width_of (int bits) = if nat_le bits 64 then Some bits else None
-width_of ty = None
-
--- a literal modulo 2 to a width
-abbrev pub wrapped : ℕ → Literal → ℕ
-wrapped width l = if l.negative then (2 ^ width - l.magnitude % 2 ^ width) % 2 ^ width else l.magnitude % 2 ^ width
+use Rattle.ir_syntax.specs.Literals.{width_of, wrapped}
 
 abbrev pub same_flag : Bool → Bool → Bool
 same_flag true b = b

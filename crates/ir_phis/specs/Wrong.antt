@@ -10,15 +10,7 @@ use Rattle.ir_syntax.specs.declared.block.Block.{Block}
 use Rattle.ir_syntax.specs.declared.module.Module.{Module}
 use Rattle.ir_syntax.specs.declared.phi.Phi.{Phi}
 use Rattle.ir_syntax.specs.declared.term.Term.{Term}
-use Rattle.ir_syntax.specs.declared.term.Term.TheVariants.{ReturnVoid, Ret, Br, CondBr, Switch, Unreachable}
-
-abbrev pub term_line : Term → ℕ
-term_line (ReturnVoid line) = line
-term_line (Ret line ty value) = line
-term_line (Br line target) = line
-term_line (CondBr line ty condition then_target else_target) = line
-term_line (Switch line ty value default cases) = line
-term_line (Unreachable line) = line
+use Rattle.ir_syntax.specs.Terms.{term_line}
 
 -- whether a terminator leads to the first block
 abbrev pub leads_to_entry : (Name → Option ℕ) → Term → Bool

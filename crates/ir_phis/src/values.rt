@@ -1,9 +1,10 @@
 //! Values of operands that are equal by what the text writes.
 ghost use Rattle.std.specs.Prelude.{◌≡◌, ◌≤◌, IfSome};
-ghost use Rattle.ir_phis.specs.Values.{literal_of, same_gep, same_index, same_indices, same_literal, same_literals, same_number, same_value, width_of, wrapped};
+ghost use Rattle.ir_phis.specs.Values.{literal_of, same_gep, same_index, same_indices, same_literal, same_literals, same_number, same_value};
+ghost use Rattle.ir_syntax.specs.Literals.{width_of, wrapped};
 
 use crate::types::same_type;
-use ir_syntax::{GepParts, Literal, Operand, TyText, TypeTree, TypedLiteral};
+use ir_syntax::{GepParts, Literal, Operand, TyText, TypedLiteral};
 
 /// Whether two operands of a type have equal values: `true` is 1 and `false` is 0, and literals wrap to the type's width.
 pub(crate) fn same_value(ty: &TyText, a: &Operand, b: &Operand) -> bool
@@ -16,18 +17,7 @@ pub(crate) fn same_value(ty: &TyText, a: &Operand, b: &Operand) -> bool
         (Operand::Null, Operand::Null) => true,
         (Operand::Undef, Operand::Undef) => true,
         (Operand::Poison, Operand::Poison) => true,
-        _ => same_literals(width_of(ty), literal_of(a), literal_of(b)),
-    }
-}
-
-/// The width of an integer type of at most 64 bits.
-fn width_of(ty: &TyText) -> Option<u8>
-    ensures width { result ≡ width_of ty.now }
-    ensures within { IfSome result (λ width. width ≤ 64) }
-{
-    match ty.tree() {
-        TypeTree::Int { bits } => (*bits <= 64).then_some(*bits),
-        _ => None,
+        _ => same_literals(ty.width(), literal_of(a), literal_of(b)),
     }
 }
 
@@ -63,22 +53,9 @@ fn same_literal(width: Option<u8>, a: Literal, b: Literal) -> bool
     ensures { result ≡ same_literal width a b }
 {
     match width {
-        Some(width) => wrapped(width, a) == wrapped(width, b),
+        Some(width) => a.wrapped(width) == b.wrapped(width),
         None => same_number(a, b),
     }
-}
-
-/// A literal modulo 2 to a width.
-fn wrapped(width: u8, literal: Literal) -> u128
-    requires { width ≤ 64 }
-    ensures { result ≡ wrapped width literal }
-{
-    let modulus = 1u128 << width;
-    let low = literal.magnitude % modulus;
-    if literal.negative {
-        return (modulus - low) % modulus;
-    }
-    low
 }
 
 /// Whether two literals are the same number.

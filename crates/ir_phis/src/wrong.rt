@@ -3,8 +3,9 @@ ghost use Rattle.std.specs.Prelude.{◌≡◌, ◌++◌, IfOk, OnOk, Some};
 ghost use Rattle.std.specs.List.{flat_map};
 ghost use Rattle.ir_ident.specs.NameMaps.{value_of};
 ghost use Rattle.ir_phis.specs.Rises.{Rises};
-ghost use Rattle.ir_phis.specs.Wrong.{fits_edges, leads_to_entry, phi_lines, term_line, wrong_in_block, wrong_in_blocks, wrong_in_body, wrong_phis};
+ghost use Rattle.ir_phis.specs.Wrong.{fits_edges, leads_to_entry, phi_lines, wrong_in_block, wrong_in_blocks, wrong_in_body, wrong_phis};
 ghost use Rattle.ir_cfg.specs.Reached.{has_place, label_place};
+ghost use Rattle.ir_syntax.specs.Terms.{term_line};
 
 use crate::entries::{have_one_value, name_blocks};
 use crate::predecessors::{predecessors, predecessors_at};
@@ -77,7 +78,7 @@ fn push_in_block(
 {
     push_wrong_phis(alloc, places, predecessors, block.phis.as_slice(), lines)?;
     let wrong = leads_to_entry(alloc, places, &block.term)?;
-    push_line_if(lines, wrong, term_line(&block.term))
+    push_line_if(lines, wrong, block.term.line())
 }
 
 fn push_wrong_phis(
@@ -130,17 +131,4 @@ fn has_first(places: &[usize]) -> bool
     ensures { result ≡ has_place places.now 0 }
 {
     places.iter().any(|place| *place == 0)
-}
-
-fn term_line(term: &Term) -> u32
-    ensures { result ≡ term_line term.now }
-{
-    match term {
-        Term::ReturnVoid { line }
-        | Term::Ret { line, .. }
-        | Term::Br { line, .. }
-        | Term::CondBr { line, .. }
-        | Term::Switch { line, .. }
-        | Term::Unreachable { line } => *line,
-    }
 }

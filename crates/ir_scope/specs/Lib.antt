@@ -1,3 +1,4 @@
+pub mod Alignments
 pub mod Globals
 pub mod Locals
 pub mod Operands

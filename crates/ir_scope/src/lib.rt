@@ -1,7 +1,8 @@
 //! What the names of a module of textual LLVM IR stand for (LangRef, "Identifiers"): global names for items, local names for
-//! values of a type, and which operands a type has.
+//! values of a type; which operands a type has; and which alignments are written rightly.
 #![tactic(auto)]
 
+mod align;
 mod globals;
 mod item;
 mod locals;
@@ -9,6 +10,7 @@ mod operands;
 mod results;
 mod scalar;
 
+pub use align::is_aligned;
 pub use globals::global_items;
 pub use item::GlobalItem;
 pub use locals::local_scalars;

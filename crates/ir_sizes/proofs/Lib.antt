@@ -1,3 +1,5 @@
+pub mod BodyLemmas
 pub mod ExtentLemmas
+pub mod LayoutLemmas
 pub mod LevelLemmas
 pub mod RoundLemmas

@@ -1,3 +1,4 @@
 pub mod Extents
 pub mod Measured
+pub mod Named
 pub mod Sized

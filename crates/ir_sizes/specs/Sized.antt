@@ -7,7 +7,8 @@ use Rattle.ir_syntax.specs.Types.{TextTree, TextTrees}
 use Rattle.ir_ident.specs.declared.name.Name.{Name}
 use Rattle.ir_syntax.specs.declared.type_def.TypeDef.{TypeDef}
 use Rattle.ty_core.specs.Places.{places_of, place_limit}
-use Rattle.ty_core.specs.Size.{greatest_size, size_limit}
+use Rattle.ty_core.specs.declared.extent.Layout.{Layout}
+use Rattle.ty_core.specs.Size.{greatest_size, layout_of, size_limit}
 use Rattle.ty_core.specs.Tree.{Tree, int, ptr, array, struct, Trees, end, more}
 use Rattle.ir_syntax.specs.Lines.{line_if}
 
@@ -61,6 +62,14 @@ is_small (Some tree) = nat_le (greatest_size tree) size_limit && nat_le (places_
 -- a type that ends, of at most 64 levels, in which no type takes more than 4,294,967,295 bytes, and of at most 65,536 places
 abbrev pub is_sized : List TypeDef → TextTree → Bool
 is_sized defs ty = is_small (replaced defs level_limit ty)
+
+abbrev pub small_layout : Option Tree → Option Layout
+small_layout None = None
+small_layout (Some tree) = if is_small (Some tree) then Some (layout_of tree) else None
+
+-- the layout of a type that has a size
+abbrev pub layout_in : List TypeDef → TextTree → Option Layout
+layout_in defs ty = small_layout (replaced defs level_limit ty)
 
 -- the lines of some of the definitions, those of types that have no size
 abbrev pub unsized_lines_in : List TypeDef → List TypeDef → List ℕ

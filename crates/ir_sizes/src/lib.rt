@@ -3,11 +3,13 @@
 
 mod extent;
 mod measured;
+mod named;
 mod rounds;
 mod sized;
 mod table;
 
 pub use extent::Extent;
+pub use named::NamedTypes;
 pub use rounds::table_of;
 pub use sized::{extent_of, tree_extent_of, unsized_lines};
 pub use table::Table;

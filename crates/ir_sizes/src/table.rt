@@ -11,12 +11,19 @@ use ir_syntax::TypeDef;
 use std::alloc::{AllocError, Global};
 
 /// The extents of the definitions of types, each found by its name.
-#[derive(Drop)]
 pub struct Table<'a> {
     /// The place of the first definition of a name.
     pub(crate) places: NameMap<'a, usize>,
     /// The extents by the places of the definitions; none of a type that has no size, as far as is known.
     pub(crate) extents: Vec<Option<Extent>>,
+}
+
+impl<'a> Drop for Table<'a> {
+    fn drop(self) {
+        let Table { places, extents } = self;
+        drop(places);
+        drop(extents);
+    }
 }
 
 impl<'a> Table<'a> {

@@ -2,7 +2,7 @@ use Rattle.std.proofs.Common.{◌∙◌, ap, is_some, rules}
 use Rattle.ir_sizes.proofs.RoundLemmas.{is_some-by_table}
 use Rattle.ir_sizes.specs.Measured.{IsTable}
 use Rattle.ir_sizes.specs.Sized.{level_limit}
-use Rattle.ir_global_rules.proofs.types.NamedTypes.is_sized.Goals as goal
+use Rattle.ir_sizes.proofs.named.NamedTypes.is_sized.Goals as goal
 
 pub returns : goal.returns
 returns c =

@@ -1,20 +1,32 @@
-//! The types that have a size (LangRef, "Structure Type" and "Data Layout").
-ghost use Rattle.std.specs.Prelude.{◌≡◌, IfOk, option_copied, option_map};
-ghost use Rattle.ir_geps.specs.Ranges.{first_def, struct_in, written_out};
-ghost use Rattle.ir_sizes.specs.Sized.{body_of, is_sized};
+//! The types that names stand for (LangRef, "Structure Type").
+ghost use Rattle.std.specs.Prelude.{◌≡◌, ◌≤◌, IfOk, IfSome, option_copied, option_map};
+ghost use Rattle.ir_sizes.specs.Extents.{IsExtent};
+ghost use Rattle.ir_sizes.specs.Measured.{measured};
+ghost use Rattle.ir_sizes.specs.Named.{first_def, struct_in, written_out};
+ghost use Rattle.ir_sizes.specs.Sized.{body_of, is_sized, layout_in};
 ghost use Rattle.ir_syntax.specs.Types.{tree_of};
+ghost use Rattle.ty_core.specs.Size.{IsAlign, size_limit};
 
+use crate::rounds::table_of;
+use crate::sized::{extent_of, tree_extent_of};
+use crate::table::Table;
 use ir_ident::Name;
-use ir_sizes::{Table, extent_of, table_of};
 use ir_syntax::{TyText, TypeDef, TypeTree};
 use std::alloc::{AllocError, Global};
 use std::marker::Model;
+use ty_core::Layout;
 
-/// The named types of a module with their extents. Contracts see their definitions.
-#[derive(Drop)]
-pub(crate) struct NamedTypes<'a> {
+/// The named types of a module, found by their names, with what is measured of them. Contracts see their definitions.
+pub struct NamedTypes<'a> {
     defs: &'a [TypeDef],
     table: Table<'a>,
+}
+
+impl<'a> Drop for NamedTypes<'a> {
+    fn drop(self) {
+        let NamedTypes { defs: _, table } = self;
+        drop(table);
+    }
 }
 
 impl<'a> Model for NamedTypes<'a> {
@@ -36,18 +48,11 @@ impl<'a> Model for NamedTypes<'a> {
 
 impl<'a> NamedTypes<'a> {
     /// The named types of these definitions.
-    pub(crate) fn new(alloc: Global, defs: &'a [TypeDef]) -> Result<NamedTypes<'a>, AllocError>
+    pub fn new(alloc: Global, defs: &'a [TypeDef]) -> Result<NamedTypes<'a>, AllocError>
         ensures { IfOk result (λ types. types ≡ defs.now) }
     {
         let table = table_of(alloc, defs)?;
         Ok(NamedTypes { defs, table })
-    }
-
-    /// Whether a type has a size.
-    pub(crate) fn is_sized(&self, ty: &TyText) -> bool
-        ensures { result ≡ is_sized self.now ty.now }
-    {
-        extent_of(&self.table, ty).is_some()
     }
 
     /// The first definition of a name.
@@ -59,7 +64,7 @@ impl<'a> NamedTypes<'a> {
     }
 
     /// The struct that a name stands for.
-    #[tactic(auto, using(ir_geps::proofs::BodyLemmas::body_first))]
+    #[tactic(auto, using(crate::proofs::BodyLemmas::body_first))]
     fn body(&self, name: &Name) -> Option<&'a TypeTree>
         ensures { option_map tree_of (option_copied result) ≡ struct_in (body_of self.now name.now) }
     {
@@ -72,8 +77,8 @@ impl<'a> NamedTypes<'a> {
         }
     }
 
-    /// A type itself, or the struct that a name stands for.
-    pub(crate) fn written_out(&self, ty: &'a TypeTree) -> Option<&'a TypeTree>
+    /// A type itself, or the struct that a name stands for (LangRef, "Structure Type").
+    pub fn written_out(&self, ty: &'a TypeTree) -> Option<&'a TypeTree>
         ensures { option_map tree_of (option_copied result) ≡ written_out self.now (tree_of ty.now) }
     {
         match ty {
@@ -83,5 +88,22 @@ impl<'a> NamedTypes<'a> {
             | TypeTree::Array { .. }
             | TypeTree::Struct { .. } => Some(ty),
         }
+    }
+
+    /// Whether a type has a size (LangRef, "Structure Type" and "Data Layout").
+    pub fn is_sized(&self, ty: &TyText) -> bool
+        ensures { result ≡ is_sized self.now ty.now }
+    {
+        extent_of(&self.table, ty).is_some()
+    }
+
+    /// The layout of a type that has a size (LangRef, "Data Layout").
+    pub fn layout(&self, ty: &TypeTree) -> Option<Layout>
+        ensures value { result ≡ layout_in self.now (tree_of ty.now) }
+        ensures size { IfSome result (λ layout. layout.size ≤ size_limit) }
+        ensures aligned { IfSome result (λ layout. IsAlign layout.align) }
+    {
+        let extent = tree_extent_of(&self.table, ty)?;
+        Some(extent.layout)
     }
 }

@@ -1,9 +1,9 @@
 use Rattle.std.proofs.Common.{rules, ◌∙◌, None, Some}
-use Rattle.ir_geps.proofs.LayoutLemmas.{layout_by_table}
+use Rattle.ir_sizes.proofs.LayoutLemmas.{layout_by_table}
 use Rattle.ir_sizes.specs.Measured.{IsTable}
 use Rattle.ir_sizes.specs.Sized.{level_limit}
 use Rattle.ir_syntax.specs.Types.{tree_of}
-use Rattle.ir_geps.proofs.named.NamedTypes.layout.Goals as goal
+use Rattle.ir_sizes.proofs.named.NamedTypes.layout.Goals as goal
 
 pub returns-in_err-extent-clause-value : goal.returns-in_err-extent-clause-value
 returns-in_err-extent-clause-value c =

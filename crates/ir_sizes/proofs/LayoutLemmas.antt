@@ -1,10 +1,9 @@
 -- The layouts of types, by a table of their extents.
 use Rattle.std.proofs.Common.{◌≡◌, ◌∙◌, Bool, true, false, Option, None, Some, option_map, List, if◌then◌else◌, refl, ap}
-use Rattle.ir_geps.specs.Offsets.{layout_in, small_layout}
 use Rattle.ir_sizes.proofs.ExtentLemmas.{extent_of, kept}
 use Rattle.ir_sizes.proofs.RoundLemmas.{measured-by_table}
 use Rattle.ir_sizes.specs.Measured.{IsTable, known_by, measured}
-use Rattle.ir_sizes.specs.Sized.{is_small, level_limit, replaced}
+use Rattle.ir_sizes.specs.Sized.{is_small, layout_in, level_limit, replaced, small_layout}
 use Rattle.ir_sizes.specs.declared.extent.Extent.{Extent}
 use Rattle.ir_sizes.specs.declared.table.Table.{Table}
 use Rattle.ir_syntax.specs.Types.{TextTree}

@@ -1,7 +1,7 @@
 -- What names stand for, by the places of their definitions.
 use Rattle.std.proofs.Common.{◌≡◌, ◌∙◌, ℕ, suc, Bool, true, false, Option, None, Some, option_map, List, [], ◌∷◌, slice_get, if◌then◌else◌, refl, sym, ap}
 use Rattle.std.specs.Option.{option_and_then}
-use Rattle.ir_geps.specs.Ranges.{first_def}
+use Rattle.ir_sizes.specs.Named.{first_def}
 use Rattle.ir_ident.specs.Names.{same_name}
 use Rattle.ir_ident.specs.declared.name.Name.{Name}
 use Rattle.ir_sizes.specs.Measured.{place_of}
