@@ -1,11 +1,6 @@
 pub mod Names
-pub mod Numbered
-pub mod Uses
-pub mod Paths
 pub mod Undefined
 pub mod Among
 pub mod Least
-pub mod Searches
 pub mod Tells
-pub mod Trees
 pub mod Owners
