@@ -1,0 +1,4 @@
+pub mod CandidateLemmas
+pub mod CountLemmas
+pub mod FreeLemmas
+pub mod RankLemmas
