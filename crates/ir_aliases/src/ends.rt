@@ -13,11 +13,18 @@ use std::alloc::{AllocError, Global};
 use std::marker::Model;
 
 /// Where the chains of a module's aliases end. Contracts see the module.
-#[derive(Drop)]
 pub struct AliasEnds<'a> {
     m: &'a Module,
     items: NameMap<'a, GlobalItem>,
     table: Vec<Position>,
+}
+
+impl<'a> Drop for AliasEnds<'a> {
+    fn drop(self) {
+        let AliasEnds { m: _, items, table } = self;
+        drop(items);
+        drop(table);
+    }
 }
 
 impl<'a> Model for AliasEnds<'a> {
@@ -62,7 +69,7 @@ impl<'a> AliasEnds<'a> {
     }
 
     /// The module.
-    pub(crate) fn module(&self) -> &'a Module
+    pub fn module(&self) -> &'a Module
         ensures { result.now ≡ self.now }
     {
         self.m

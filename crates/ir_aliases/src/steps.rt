@@ -7,9 +7,10 @@ ghost use Rattle.ir_scope.specs.Globals.{global_item};
 ghost use Rattle.ir_syntax.specs.declared.module.Module.{Module};
 
 use crate::position::{End, Position};
-use ir_geps::{NamedTypes, gep_offset};
+use ir_geps::gep_offset;
 use ir_ident::{Name, NameMap};
 use ir_scope::GlobalItem;
+use ir_sizes::NamedTypes;
 use ir_syntax::{AliasBase, Module};
 
 pub(crate) fn base_name(base: &AliasBase) -> &Name

@@ -9,9 +9,9 @@ ghost use Rattle.ir_syntax.specs.declared.module.Module.{Module};
 
 use crate::position::Position;
 use crate::steps::{base_name, base_offset, item_position, moved, moved_by};
-use ir_geps::NamedTypes;
 use ir_ident::NameMap;
 use ir_scope::GlobalItem;
+use ir_sizes::NamedTypes;
 use ir_syntax::{AliasBase, Module};
 use std::alloc::{AllocError, Global};
 

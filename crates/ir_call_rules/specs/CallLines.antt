@@ -1,7 +1,7 @@
 -- The lines of calls that break a rule (LangRef, "'call' Instruction" and "Intrinsic Functions").
 use Rattle.std.specs.Prelude.{ℕ, not, Option, None, Some, List, []}
 use Rattle.std.specs.List.{flat_map}
-use Rattle.ir_call_rules.specs.Ops.{called_function, instr_fits}
+use Rattle.ir_call_rules.specs.Ops.{callee_of, instr_fits}
 use Rattle.ir_ident.specs.declared.name.Name.{Name}
 use Rattle.ir_scope.specs.Locals.{local_scalar}
 use Rattle.ir_scope.specs.declared.scalar.Scalar.{Scalar}
@@ -26,5 +26,5 @@ abbrev pub function_lines : (Name → Option Function) → Function → List ℕ
 function_lines function_of f = body_lines (local_scalar f) function_of f.blocks
 
 -- those of all functions of a module
-abbrev pub call_lines : (Name → Option ℕ) → Module → List ℕ
-call_lines called m = flat_map (function_lines (called_function called m.functions)) m.functions
+abbrev pub call_lines : Module → List ℕ
+call_lines m = flat_map (function_lines (callee_of m)) m.functions

@@ -2,8 +2,9 @@
 use Rattle.std.specs.Prelude.{Bool, true, false, ◌&&◌, Option, None, Some, List, [], ◌∷◌, map}
 use Rattle.std.specs.List.{list_all}
 use Rattle.ir_ident.specs.declared.name.Name.{Name}
-use Rattle.ir_op_rules.specs.Memory.{access_align_limit, is_aligned}
+use Rattle.ir_op_rules.specs.Memory.{access_align_limit}
 use Rattle.ir_op_rules.specs.Values.{are_same}
+use Rattle.ir_scope.specs.Alignments.{is_aligned}
 use Rattle.ir_scope.specs.Operands.{value_fits}
 use Rattle.ir_scope.specs.Scalars.{maybe_scalar, scalar_of}
 use Rattle.ir_scope.specs.declared.scalar.Scalar.{Scalar}

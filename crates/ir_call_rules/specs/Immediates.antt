@@ -5,8 +5,7 @@ use Rattle.ir_call_rules.specs.declared.intrinsic.IntegerFunction.{IntegerFuncti
 use Rattle.ir_call_rules.specs.declared.intrinsic.IntegerFunction.TheVariants.{Bswap, Ctlz, Cttz, Abs}
 use Rattle.ir_call_rules.specs.declared.intrinsic.Intrinsic.{Intrinsic}
 use Rattle.ir_call_rules.specs.declared.intrinsic.Intrinsic.TheVariants.{Integer, Trap, Memcpy, Memmove, Memset}
-use Rattle.ir_op_rules.specs.Switches.{wrapped}
-use Rattle.ir_syntax.specs.Literals.{literal_value}
+use Rattle.ir_syntax.specs.Literals.{wrapped}
 use Rattle.ir_syntax.specs.declared.instr.Arg.{Arg}
 use Rattle.ir_syntax.specs.declared.operand.Operand.{Operand}
 use Rattle.ir_syntax.specs.declared.operand.Operand.TheVariants.{Int, True, False}
@@ -20,7 +19,7 @@ is_constant other = false
 
 -- `false`, or a number that is it in one bit
 abbrev pub is_false : Operand → Bool
-is_false (Int literal) = wrapped 1 (literal_value literal) == 0
+is_false (Int literal) = wrapped 1 literal == 0
 is_false False = true
 is_false other = false
 
@@ -43,7 +42,7 @@ is_small align size = nat_le size 256 && nat_le (piece_count align size) 64
 
 -- a length is a number of 64 bits
 abbrev pub length_fits : ℕ → Operand → Bool
-length_fits align (Int literal) = is_small align (wrapped 64 (literal_value literal))
+length_fits align (Int literal) = is_small align (wrapped 64 literal)
 length_fits align other = false
 
 -- an address is at a multiple of 1 where no alignment is written

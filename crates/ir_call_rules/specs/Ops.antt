@@ -1,5 +1,7 @@
 -- The rules that a call keeps (LangRef, "'call' Instruction" and "Intrinsic Functions").
-use Rattle.std.specs.Prelude.{ℕ, Bool, true, false, ◌&&◌, not, Option, None, Some, is_some, List, slice_get}
+use Rattle.std.specs.Prelude.{Bool, true, false, ◌&&◌, not, Option, None, Some, is_some, List, slice_get}
+use Rattle.std.specs.Option.{option_and_then}
+use Rattle.ir_aliases.specs.Ends.{called_function}
 use Rattle.ir_call_rules.specs.Calls.{are_aligned, callee_fits, values_fit, written_fit}
 use Rattle.ir_call_rules.specs.Immediates.{immediates_fit}
 use Rattle.ir_call_rules.specs.Intrinsics.{intrinsic_of}
@@ -14,14 +16,11 @@ use Rattle.ir_syntax.specs.declared.instr.Arg.{Arg}
 use Rattle.ir_syntax.specs.declared.instr.Instr.{Instr}
 use Rattle.ir_syntax.specs.declared.instr.Op.{Op}
 use Rattle.ir_syntax.specs.declared.instr.Op.TheVariants.{Call}
+use Rattle.ir_syntax.specs.declared.module.Module.{Module}
 
-abbrev pub function_at : List Function → Option ℕ → Option Function
-function_at functions None = None
-function_at functions (Some place) = slice_get functions place
-
--- the function that a called name stands for, where `called` has its place
-abbrev pub called_function : (Name → Option ℕ) → List Function → Name → Option Function
-called_function called functions name = function_at functions (called name)
+-- the function that a called name stands for
+abbrev pub callee_of : Module → Name → Option Function
+callee_of m name = option_and_then (slice_get m.functions) (called_function m name)
 
 -- the function, the written types of parameters, the arguments and their alignments
 abbrev pub call_fits : (Name → Option Scalar) → Option TextTree → Option (List TextTree) → List Arg → Option Function → Bool

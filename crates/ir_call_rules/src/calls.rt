@@ -1,11 +1,11 @@
 //! The types that a call agrees with (LangRef, "'call' Instruction").
-ghost use Rattle.std.specs.Prelude.{◌≡◌, slice_get};
+ghost use Rattle.std.specs.Prelude.{◌≡◌, option_copied};
 ghost use Rattle.ir_ident.specs.NameMaps.{value_of};
 ghost use Rattle.ir_call_rules.specs.Calls.{are_aligned, callee_fits, has_type, same_results, values_fit, written_fit};
-ghost use Rattle.ir_call_rules.specs.Ops.{function_at};
+ghost use Rattle.ir_call_rules.specs.Ops.{callee_of};
 
 use crate::args::are_of_types;
-use crate::scope::Scope;
+use ir_aliases::AliasEnds;
 use ir_ident::{Name, NameMap};
 use ir_op_rules::{are_same, is_access_aligned};
 use ir_scope::{Scalar, scalar_of, value_fits};
@@ -29,31 +29,24 @@ fn has_type(function: &Function, returned: &Option<TyText>, args: &[Arg]) -> boo
     same_results(&function.result, returned) & are_of_types(function.params.as_slice(), args)
 }
 
+/// The function that a callee stands for.
+fn callee_of<'a>(ends: &AliasEnds<'a>, callee: &Name) -> Option<&'a Function>
+    ensures { option_copied result ≡ callee_of ends.now callee.now }
+{
+    let place = ends.called_function(callee)?;
+    ends.module().functions.as_slice().get(place)
+}
+
 /// Whether a name stands for a function that has a call's type.
 pub(crate) fn callee_fits(
-    scope: &Scope<'_>,
+    ends: &AliasEnds<'_>,
     callee: &Name,
     returned: &Option<TyText>,
     args: &[Arg],
 ) -> bool
-    ensures { result ≡ callee_fits returned.now args.now (function_at scope.now.functions.now (value_of scope.now.called.now callee.now)) }
+    ensures { result ≡ callee_fits returned.now args.now (callee_of ends.now callee.now) }
 {
-    match scope.called.get(callee) {
-        Some(place) => has_type_at(scope.functions, place, returned, args),
-        None => false,
-    }
-}
-
-/// Whether the function at a place, if there is one, has a call's type.
-fn has_type_at(
-    functions: &[Function],
-    place: usize,
-    returned: &Option<TyText>,
-    args: &[Arg],
-) -> bool
-    ensures { result ≡ callee_fits returned.now args.now (slice_get functions.now place) }
-{
-    match functions.get(place) {
+    match callee_of(ends, callee) {
         Some(function) => has_type(function, returned, args),
         None => false,
     }

@@ -4,7 +4,6 @@ ghost use Rattle.ir_call_rules.specs.Immediates.{align_or_1, copy_fits, immediat
 
 use crate::intrinsic::{IntegerFunction, Intrinsic};
 use crate::pieces::piece_count;
-use ir_op_rules::wrapped;
 use ir_syntax::{Arg, Operand};
 
 /// The most bytes that a memory intrinsic accesses.
@@ -26,7 +25,7 @@ fn is_false(operand: &Operand) -> bool
     ensures { result ≡ is_false operand.now }
 {
     match operand {
-        Operand::Int(literal) => wrapped(1, *literal) == 0,
+        Operand::Int(literal) => literal.wrapped(1) == 0,
         Operand::False => true,
         _ => false,
     }
@@ -73,7 +72,7 @@ fn length_fits(align: u64, operand: &Operand) -> bool
     ensures { result ≡ length_fits align operand.now }
 {
     match operand {
-        Operand::Int(literal) => is_small(align, wrapped(64, *literal)),
+        Operand::Int(literal) => is_small(align, literal.wrapped(64)),
         _ => false,
     }
 }

@@ -1,7 +1,7 @@
 //! The rules that a call keeps (LangRef, "'call' Instruction" and "Intrinsic Functions").
 ghost use Rattle.std.specs.Prelude.{◌≡◌};
 ghost use Rattle.ir_call_rules.specs.Intrinsics.{intrinsic_of};
-ghost use Rattle.ir_call_rules.specs.Ops.{call_fits, called_function, instr_fits, intrinsic_fits, is_void_call, op_fits, result_fits};
+ghost use Rattle.ir_call_rules.specs.Ops.{call_fits, callee_of, instr_fits, intrinsic_fits, is_void_call, op_fits, result_fits};
 ghost use Rattle.ir_ident.specs.NameMaps.{value_of};
 ghost use Rattle.ir_ident.specs.Names.{name_bytes};
 
@@ -23,9 +23,9 @@ fn call_fits(
     args: &[Arg],
 ) -> bool
     ensures { result ≡ call_fits (value_of scope.now.locals.now) returned.now params.now args.now
-        (called_function (value_of scope.now.called.now) scope.now.functions.now callee.now) }
+        (callee_of scope.now.ends.now callee.now) }
 {
-    callee_fits(scope, callee, returned, args)
+    callee_fits(scope.ends, callee, returned, args)
         & (written_fit(params, args) & (values_fit(scope.locals, args) & are_aligned(args)))
 }
 
@@ -51,7 +51,7 @@ fn intrinsic_fits(returned: &Option<TyText>, args: &[Arg], intrinsic: Option<Int
 }
 
 fn op_fits(scope: &Scope<'_>, op: &Op) -> bool
-    ensures { result ≡ op_fits (value_of scope.now.locals.now) (called_function (value_of scope.now.called.now) scope.now.functions.now) op.now }
+    ensures { result ≡ op_fits (value_of scope.now.locals.now) (callee_of scope.now.ends.now) op.now }
 {
     match op {
         Op::Call {
@@ -82,7 +82,7 @@ fn result_fits(instr: &Instr) -> bool
 
 /// Whether an instruction keeps the rules on calls, if it is one.
 pub(crate) fn instr_fits(scope: &Scope<'_>, instr: &Instr) -> bool
-    ensures { result ≡ instr_fits (value_of scope.now.locals.now) (called_function (value_of scope.now.called.now) scope.now.functions.now) instr.now }
+    ensures { result ≡ instr_fits (value_of scope.now.locals.now) (callee_of scope.now.ends.now) instr.now }
 {
     result_fits(instr) & op_fits(scope, &instr.op)
 }

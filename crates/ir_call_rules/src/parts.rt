@@ -2,7 +2,7 @@
 ghost use Rattle.std.specs.Prelude.{◌≡◌, ◌++◌, OnOk};
 ghost use Rattle.std.specs.List.{flat_map};
 ghost use Rattle.ir_call_rules.specs.CallLines.{block_lines, body_lines, instr_lines};
-ghost use Rattle.ir_call_rules.specs.Ops.{called_function};
+ghost use Rattle.ir_call_rules.specs.Ops.{callee_of};
 ghost use Rattle.ir_ident.specs.NameMaps.{value_of};
 
 use crate::ops::instr_fits;
@@ -12,7 +12,7 @@ use std::alloc::AllocError;
 
 fn push_instrs(scope: &Scope<'_>, lines: &mut Vec<u32>, instrs: &[Instr]) -> Result<(), AllocError>
     ensures { OnOk result (lines.new.items ≡ lines.old.items
-        ++ flat_map (instr_lines (value_of scope.now.locals.now) (called_function (value_of scope.now.called.now) scope.now.functions.now)) instrs.now) }
+        ++ flat_map (instr_lines (value_of scope.now.locals.now) (callee_of scope.now.ends.now)) instrs.now) }
 {
     for instr in instrs {
         push_line_if(lines, !instr_fits(scope, instr), instr.line)?;
@@ -22,7 +22,7 @@ fn push_instrs(scope: &Scope<'_>, lines: &mut Vec<u32>, instrs: &[Instr]) -> Res
 
 fn push_blocks(scope: &Scope<'_>, lines: &mut Vec<u32>, blocks: &[Block]) -> Result<(), AllocError>
     ensures { OnOk result (lines.new.items ≡ lines.old.items
-        ++ flat_map (block_lines (value_of scope.now.locals.now) (called_function (value_of scope.now.called.now) scope.now.functions.now)) blocks.now) }
+        ++ flat_map (block_lines (value_of scope.now.locals.now) (callee_of scope.now.ends.now)) blocks.now) }
 {
     for block in blocks {
         push_instrs(scope, lines, block.instrs.as_slice())?;
@@ -41,7 +41,7 @@ pub(crate) fn push_body(
     blocks: &Option<Blocks>,
 ) -> Result<(), AllocError>
     ensures { OnOk result (lines.new.items ≡ lines.old.items
-        ++ body_lines (value_of scope.now.locals.now) (called_function (value_of scope.now.called.now) scope.now.functions.now) blocks.now) }
+        ++ body_lines (value_of scope.now.locals.now) (callee_of scope.now.ends.now) blocks.now) }
 {
     match blocks {
         Some(blocks) => push_blocks(scope, lines, blocks.as_slice()),
