@@ -20,7 +20,7 @@ use Rattle.cg_built.specs.Built.{IsBuiltFunction}
 use Rattle.cg_built.specs.Definitions.{has_body}
 use Rattle.cg_built.specs.Built.{function_name}
 use Rattle.cg_built.proofs.BareNames.{name_is_bare}
-use Rattle.cg_built.proofs.NoLines.{no_fault, none_joined}
+use Rattle.ir_check.proofs.NoLines.{no_fault, none_joined}
 
 -- a function's name with its line
 abbrev pub function_use : Function → NameUse

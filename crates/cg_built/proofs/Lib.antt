@@ -1,6 +1,5 @@
 pub mod BareNames
 pub mod BuiltLemmas
 pub mod DistinctNames
-pub mod NoLines
 pub mod Programs
 pub mod UnbuiltLemmas

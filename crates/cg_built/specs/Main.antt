@@ -1,7 +1,7 @@
 -- The function that a run begins with.
 use Rattle.std.specs.Prelude.{◌&&◌, ◌||◌, Bool, true, false, bytes_eq, codes, Option, Some, List, [], ◌∷◌}
 use Rattle.std.specs.List.{list_any}
-use Rattle.ir_check.specs.Signatures.{is_i32, takes_none}
+use Rattle.ir_check.specs.Hosts.{is_i32, takes_none}
 use Rattle.ir_syntax.specs.Types.{TextTree, ptr}
 use Rattle.ir_syntax.specs.declared.function.Function.{Function}
 use Rattle.ir_syntax.specs.declared.function.Param.{Param}

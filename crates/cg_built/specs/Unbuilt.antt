@@ -2,10 +2,7 @@
 use Rattle.std.specs.Prelude.{◌≡◌, ℕ, ◌&&◌, ◌||◌, ◌==◌, Bool, true, false, not, nat_le, is_some, min, Option, None, Some, List, [], ◌∷◌, ◌++◌, length, map, if◌then◌else◌}
 use Rattle.std.specs.List.{flat_map, list_all, reduce}
 use Rattle.ir_check.specs.Checks.{IsChecked}
-use Rattle.ir_check.specs.Limits.{exceeded_limit}
 use Rattle.ir_syntax.specs.Lines.{line_if}
-use Rattle.ir_check.specs.Signatures.{is_declarable}
-use Rattle.ir_sizes.specs.Sized.{unsized_lines}
 use Rattle.ir_ident.specs.Names.{name_bytes}
 use Rattle.ir_syntax.specs.Types.{TextTree, int}
 use Rattle.ir_syntax.specs.declared.block.Block.{Block}
@@ -73,26 +70,18 @@ is_built_block f b = is_empty b.phis && is_empty b.instrs && is_built_term f b.t
 abbrev pub is_built_body : Function → Block → List Block → Bool
 is_built_body f first more = is_empty more && is_built_block f first
 
--- the lines of a function that is not built: that of its `define` or `declare`, and that of its first block
+-- the lines of a function that is not built: that of its `define`, and that of its first block
 abbrev pub unbuilt_by : Function → Option (List Block) → List ℕ
-unbuilt_by f None = line_if (not (is_declarable f)) f.line
+unbuilt_by f None = []
 unbuilt_by f (Some []) = f.line ∷ []
 unbuilt_by f (Some (first ∷ more)) = line_if (not (is_built_head f)) f.line ++ line_if (not (is_built_body f first more)) first.line
 
 abbrev pub unbuilt_in : Function → List ℕ
 unbuilt_in f = unbuilt_by f f.blocks
 
--- the lines of all items
-abbrev pub item_lines : Module → List ℕ
-item_lines m =
-    map (λ t. t.line) m.types ++ (map (λ g. g.line) m.globals ++ (map (λ f. f.line) m.functions ++ map (λ a. a.line) m.aliases))
-
--- the lines of what is not built: variables and aliases, functions of another form, and types without a size; where the
--- module exceeds a limit, all of it
+-- the lines of what is not built: variables and aliases, and functions of another form
 abbrev pub unbuilt_lines : Module → List ℕ
-unbuilt_lines m =
-    map (λ g. g.line) m.globals ++ (map (λ a. a.line) m.aliases ++ (flat_map unbuilt_in m.functions
-    ++ (unsized_lines m.types ++ (if is_some (exceeded_limit m) then item_lines m else []))))
+unbuilt_lines m = map (λ g. g.line) m.globals ++ (map (λ a. a.line) m.aliases ++ flat_map unbuilt_in m.functions)
 
 -- the first of these lines; none where all is built
 abbrev pub first_unbuilt : Module → Option ℕ

@@ -1,6 +1,6 @@
 //! The function that a run begins with.
 ghost use Rattle.std.specs.Prelude.{◌≡◌, ◌||◌};
-ghost use Rattle.ir_check.specs.Signatures.{takes_none};
+ghost use Rattle.ir_check.specs.Hosts.{takes_none};
 ghost use Rattle.cg_built.specs.Main.{defines_main, fits_main, has_main, is_main, is_ptr, takes_words};
 
 use crate::linkage::is_external;

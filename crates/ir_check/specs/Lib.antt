@@ -1,3 +1,5 @@
 pub mod Checks
+pub mod Faults
+pub mod Hosts
+pub mod Lesser
 pub mod Limits
-pub mod Signatures

@@ -1,14 +1,22 @@
 //! Modules that passed the checks.
-ghost use Rattle.std.specs.Prelude.{◌≡◌};
-ghost use Rattle.ir_check.specs.Checks.{IsChecked};
+ghost use Rattle.std.specs.Prelude.{◌≡◌, IfOk};
+ghost use Rattle.ir_check.specs.Checks.{IsChecked, IsCheckedFrom, KeepsRules};
 
+use ir_prune::prune;
 use ir_syntax::Module;
+use std::alloc::{AllocError, Global};
 use std::marker::Model;
 
 /// A module that passed the checks. Contracts see the module.
-#[derive(Drop)]
 pub struct Checked {
     module: Module,
+}
+
+impl Drop for Checked {
+    fn drop(self) {
+        let Checked { module } = self;
+        drop(module);
+    }
 }
 
 impl Model for Checked {
@@ -26,12 +34,17 @@ impl Model for Checked {
 }
 
 impl Checked {
-    /// The module, which passed the checks.
-    pub(crate) fn new(m: Module) -> Checked
-        requires { IsChecked m }
-        ensures { result ≡ m }
+    /// What the checks make of a module that keeps the rules.
+    ///
+    /// # Errors
+    ///
+    /// [`AllocError`].
+    pub(crate) fn new(alloc: Global, m: Module) -> Result<Checked, AllocError>
+        requires { KeepsRules m }
+        ensures { IfOk result (IsCheckedFrom m) }
     {
-        Checked { module: m }
+        let module = prune(alloc, m)?;
+        Ok(Checked { module })
     }
 
     /// The module.

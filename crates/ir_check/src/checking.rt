@@ -1,33 +1,68 @@
 //! The checks of a module.
-ghost use Rattle.std.specs.Prelude.{◌≡◌, IfOk, MatchOption, min};
-ghost use Rattle.std.specs.List.{reduce};
+ghost use Rattle.std.specs.Prelude.{◌≡◌, IfOk, MatchOption};
 ghost use Rattle.ir_ident.specs.Names.{name_bytes};
-ghost use Rattle.ir_check.specs.Checks.{Checks, IsCheckRefusal, IsChecked, first_repeated};
+ghost use Rattle.ir_check.specs.Checks.{Checks, IsCheckRefusal, KeepsNames, KeepsRules, first_repeated};
 ghost use Rattle.ir_naming.specs.Items.{named_items};
 
 use crate::checked::Checked;
+use crate::faults::{copied, first_alias_fault, first_flow_fault, first_type_fault, least_line};
+use crate::limits::exceeded_limit;
 use ir_naming::{ItemName, bytes_of, first_misnamed, item_names, repeated_lines};
-use ir_syntax::{Bytes, Module, Refusal};
+use ir_syntax::{Module, Refusal};
 use std::alloc::{AllocError, Global};
 
-/// A module that keeps the rules, or the first rule that it breaks: no name is defined twice, and none is reserved.
+/// A module that keeps the rules, without the blocks that no path reaches; or the first rule that it breaks.
 ///
 /// # Errors
 ///
-/// [`Refusal::Repeated`], [`Refusal::Reserved`] and [`Refusal::NoMemory`].
+/// [`Refusal::Repeated`], [`Refusal::Reserved`], [`Refusal::TypeRule`], [`Refusal::FlowRule`], [`Refusal::AliasRule`],
+/// [`Refusal::Count`] and [`Refusal::NoMemory`].
 pub fn check(alloc: Global, m: Module) -> Result<Checked, Refusal>
     ensures { Checks m result }
 {
     match first_broken(alloc, &m) {
-        Ok(None) => Ok(Checked::new(m)),
+        Ok(None) => keep(alloc, m),
         Ok(Some(refusal)) => Err(refusal),
+        Err(_) => Err(Refusal::NoMemory),
+    }
+}
+
+/// What the checks make of a module that keeps the rules.
+fn keep(alloc: Global, m: Module) -> Result<Checked, Refusal>
+    requires { KeepsRules m }
+    ensures { Checks m result }
+{
+    match Checked::new(alloc, m) {
+        Ok(checked) => Ok(checked),
         Err(_) => Err(Refusal::NoMemory),
     }
 }
 
 /// The first rule that a module breaks.
 fn first_broken(alloc: Global, m: &Module) -> Result<Option<Refusal>, AllocError>
-    ensures { IfOk result (λ first. MatchOption first (IsChecked m.now) (IsCheckRefusal m.now)) }
+    ensures { IfOk result (λ first. MatchOption first (KeepsRules m.now) (IsCheckRefusal m.now)) }
+{
+    if let Some(refusal) = first_broken_name(alloc, m)? {
+        return Ok(Some(refusal));
+    }
+    if let Some(line) = first_type_fault(alloc, m)? {
+        return Ok(Some(Refusal::TypeRule { line }));
+    }
+    if let Some(line) = first_flow_fault(alloc, m)? {
+        return Ok(Some(Refusal::FlowRule { line }));
+    }
+    if let Some(name) = first_alias_fault(alloc, m)? {
+        return Ok(Some(Refusal::AliasRule { name }));
+    }
+    match exceeded_limit(alloc, m)? {
+        Some(which) => Ok(Some(Refusal::Count { which })),
+        None => Ok(None),
+    }
+}
+
+/// The first rule on names that a module breaks.
+fn first_broken_name(alloc: Global, m: &Module) -> Result<Option<Refusal>, AllocError>
+    ensures { IfOk result (λ first. MatchOption first (KeepsNames m.now) (IsCheckRefusal m.now)) }
 {
     let items = item_names(alloc, m)?;
     if let Some(line) = first_repeated(alloc, m, items.as_slice())? {
@@ -52,20 +87,11 @@ fn first_repeated(
     Ok(least_line(lines.as_slice()))
 }
 
-/// The least of these lines; none where there are none.
-pub fn least_line(lines: &[u32]) -> Option<u32>
-    ensures { result ≡ reduce min lines.now }
-{
-    lines.iter().copied().min()
-}
-
 /// The refusal of an item for its name.
 fn reserved(alloc: Global, item: &ItemName<'_>) -> Result<Refusal, AllocError>
     ensures { IfOk result (λ refusal. refusal ≡ Refusal.Reserved (name_bytes item.now.name)) }
 {
-    let mut name = Vec::new(alloc);
-    name.extend_from_slice(bytes_of(item.name))?;
     Ok(Refusal::Reserved {
-        name: Bytes::from_vec(name),
+        name: copied(alloc, bytes_of(item.name))?,
     })
 }

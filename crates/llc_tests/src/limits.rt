@@ -23,9 +23,15 @@ const ENDED: &str = "  ret i64 0\n}\n";
 
 /// Long texts that are refused, and what is told of them.
 const LONG: &[(Long, &str)] = &[
-    (("", FUNCTION, 4097, ""), "llc: refused 18 NotYet 1\n"),
+    (
+        ("", FUNCTION, 4097, ""),
+        "llc: refused 11 Count Functions\n",
+    ),
     ((BEGUN, ADD, 65_535, ENDED), "llc: refused 18 NotYet 3\n"),
-    ((BEGUN, ADD, 65_536, ENDED), "llc: refused 18 NotYet 1\n"),
+    (
+        (BEGUN, ADD, 65_536, ENDED),
+        "llc: refused 11 Count OneFunction\n",
+    ),
     (("", "x", 16_777_216, ""), "llc: refused 4 Form 1\n"),
     (
         ("", "x", 16_777_217, ""),

@@ -9,6 +9,12 @@ const AT_1: &str = "llc: refused 18 NotYet 1\n";
 /// The second line defines a name again.
 const REPEATED_2: &str = "llc: refused 6 Repeated 2\n";
 
+/// The first line breaks a rule on types.
+const TYPE_RULE_1: &str = "llc: refused 8 TypeRule 1\n";
+
+/// The second line does.
+const TYPE_RULE_2: &str = "llc: refused 8 TypeRule 2\n";
+
 /// The second line is the first that is not built yet.
 const AT_2: &str = "llc: refused 18 NotYet 2\n";
 
@@ -102,10 +108,74 @@ const REFUSED: &[Row] = &[
         "define void @_start() {\n  ret void\n}\n@a = global i8 0\n@a = global i8 0\n",
         "llc: refused 6 Repeated 5\n",
     ),
+    // Types that do not agree, or have no size; a function of the host of another type.
+    ("define i64 @a() {\n  ret i32 0\n}\n", TYPE_RULE_2),
+    ("define i64 @a(i32 %x) {\n  ret i64 %x\n}\n", TYPE_RULE_2),
+    ("%u = type { i8 }\n%t = type { [2 x %t] }\n", TYPE_RULE_2),
+    ("%t = type { [4294967295 x i16] }\n", TYPE_RULE_1),
+    ("declare [2 x i64] @a()\n", TYPE_RULE_1),
+    ("declare void @a({ i64 })\n", TYPE_RULE_1),
+    ("declare void @__host_put(i64)\n", TYPE_RULE_1),
+    ("declare i32 @__host_get(i32)\n", TYPE_RULE_1),
+    ("\n@__host_get = external global i8\n", TYPE_RULE_2),
+    ("@g = global i8 0, align 3\n", TYPE_RULE_1),
+    ("@g = global i8 0\n@h = global ptr 0\n", TYPE_RULE_2),
+    (
+        "define void @f() {\n  call void @g(i8 0)\n  ret void\n}\ndeclare void @g(i16)\n",
+        TYPE_RULE_2,
+    ),
+    ("define ptr @f() {\n  ret ptr @f\n}\n", TYPE_RULE_2),
+    (
+        "@g = global i8 0\n@x = global ptr getelementptr ({ i8 }, ptr @g, i64 0, i32 1)\n",
+        TYPE_RULE_2,
+    ),
+    // The least of several lines.
+    (
+        "define i64 @a() {\n  ret i32 0\n}\n@g = global i8 0, align 3\n",
+        TYPE_RULE_2,
+    ),
+    // A use that some path reaches before its definition, a phi and a terminator that do not fit.
+    (
+        "define i32 @a(i1 %c) {\ne:\n  br i1 %c, label %t, label %j\nt:\n  %v = add i32 1, 2\n  br label %j\nj:\n  ret i32 %v\n}\n",
+        "llc: refused 9 FlowRule 8\n",
+    ),
+    (
+        "define i32 @a(i1 %c) {\ne:\n  br label %t\nt:\n  %v = add i32 1, 2\n  br label %j\nj:\n  ret i32 0\n}\n",
+        AT_1,
+    ),
+    (
+        "define void @a() {\ne:\n  br label %e\n}\n",
+        "llc: refused 9 FlowRule 3\n",
+    ),
+    (
+        "define i8 @a() {\n  br label %b\nb:\n  %p = phi i8 [ 1, %b ]\n  ret i8 %p\n}\n",
+        "llc: refused 9 FlowRule 4\n",
+    ),
+    // Aliases that come to no definition, or are too far from it.
+    (
+        "@x = alias i8, ptr @y\n@y = alias i8, ptr @x\n",
+        "llc: refused 10 AliasRule x\n",
+    ),
+    (
+        "@g = global i8 0\n@x = alias i8, getelementptr (i8, ptr @g, i64 536870912)\n",
+        "llc: refused 10 AliasRule x\n",
+    ),
+    (
+        "@g = global i8 0\n@x = alias i8, getelementptr (i8, ptr @g, i64 536870911)\n",
+        AT_1,
+    ),
+    (
+        "declare void @b()\n@\"a b\" = alias void (), ptr @b\n",
+        "llc: refused 10 AliasRule \"a b\"\n",
+    ),
+    // Limits.
+    (
+        "%t = type { i8 }\ndeclare void @a(i8, i8, i8, i8, i8, i8, i8, i8, i8, i8, i8, i8, i8, i8, i8, i8, i8, i8, i8, i8, i8, i8, i8, i8, i8, i8, i8, i8, i8, i8, i8, i8, i8, i8, i8, i8, i8, i8, i8, i8, i8, i8, i8, i8, i8, i8, i8, i8, i8, i8, i8, i8, i8, i8, i8, i8, i8, i8, i8, i8, i8, i8, i8, i8, i8)\n",
+        "llc: refused 11 Count Arguments\n",
+    ),
     // Not built.
     ("define i64 @a() {\n  ret i64 2048\n}\n", AT_2),
     ("define i64 @a() {\n  ret i64 -2049\n}\n", AT_2),
-    ("define i64 @a() {\n  ret i32 0\n}\n", AT_2),
     ("define i64 @a() {\n  ret i64 undef\n}\n", AT_2),
     ("define i64 @a() {\nentry:\n  unreachable\n}\n", AT_2),
     (
@@ -127,22 +197,11 @@ const REFUSED: &[Row] = &[
     ),
     ("define i64 @\"a b\"() {\n  ret i64 0\n}\n", AT_1),
     ("define i64 @0() {\n  ret i64 0\n}\n", AT_1),
-    ("declare [2 x i64] @a()\n", AT_1),
-    ("declare void @a({ i64 })\n", AT_1),
-    ("declare void @__host_put(i64)\n", AT_1),
-    ("declare i32 @__host_get(i32)\n", AT_1),
     ("@a = global i64 0\n", AT_1),
     ("@a = external global i64\n", AT_1),
     (
         "\n\n\n@a = external global ptr\n\n@b = external global ptr\n",
         AT_4,
-    ),
-    ("declare void @b()\n@a = alias void (), ptr @b\n", AT_2),
-    ("%u = type { i8 }\n%t = type { [2 x %t] }\n", AT_2),
-    ("%t = type { [4294967295 x i16] }\n", AT_1),
-    (
-        "%t = type { i8 }\ndeclare void @a(i8, i8, i8, i8, i8, i8, i8, i8, i8, i8, i8, i8, i8, i8, i8, i8, i8, i8, i8, i8, i8, i8, i8, i8, i8, i8, i8, i8, i8, i8, i8, i8, i8, i8, i8, i8, i8, i8, i8, i8, i8, i8, i8, i8, i8, i8, i8, i8, i8, i8, i8, i8, i8, i8, i8, i8, i8, i8, i8, i8, i8, i8, i8, i8, i8)\n",
-        AT_1,
     ),
 ];
 

@@ -9,7 +9,8 @@ use Rattle.cg_io.specs.Told.{GivesAll, TakesExactly}
 use Rattle.cg_io.proofs.ToldLemmas.{GivesAll-told}
 use Rattle.cg_built.proofs.Programs.{IsProgram}
 use Rattle.cg_built.specs.Unbuilt.{IsBuilt, first_unbuilt}
-use Rattle.ir_check.proofs.OneAnswer.{checked_excludes}
+use Rattle.ir_check.proofs.OneAnswer.{keeping_excludes}
+use Rattle.ir_check.specs.Checks.{IsCheckedFrom}
 use Rattle.cg_built.proofs.UnbuiltLemmas.{is_program}
 use Rattle.cg_part.specs.Text.{part_text}
 use Rattle.cg_part.proofs.AllowedLemmas.{image_allowed, program_allowed}
@@ -24,7 +25,7 @@ use Rattle.llc_top.specs.Exact.{IsExact, Serves, Compiled, Ran}
 use Rattle.llc_top.specs.Headline.{Does, Headline}
 use Rattle.cg_built.specs.Main.{defines_main, has_main, is_main, fits_main}
 use Rattle.llc_top.specs.Outcome.{Outcome, words_refused, read_failed, refuses, compiles, runs, status_of, out_due, err_due, HasReason, Answers, TakesModule, TakesProgram, TakesRefused}
-use Rattle.llc_top.specs.Refusals.{IsAccepted, IsFirstRefusal, IsModuleRefusal, IsRunRefusal, text_limit}
+use Rattle.llc_top.specs.Refusals.{IsAccepted, IsCheckedRefusal, IsFirstRefusal, IsModuleRefusal, IsRunRefusal, text_limit}
 use Rattle.llc_top.specs.Streams.{SourceChange, SinkChange, TellsAll}
 use Rattle.llc_words.specs.Commands.{Command, command_of}
 use Rattle.llc_words.specs.declared.types.Mode.{Mode}
@@ -78,19 +79,23 @@ run_apart m e (has, image, linked) (inr (also, (why, unlinked, some, is))) = som
 none_some : (found : Option ℕ) (line : ℕ) → found ≡ None → found ≡ Some line → ⊥
 none_some found line none some = absurd (cc)
 
-module_apart : (mode : Mode) (m : Module) (e : Refusal) → IsBuilt m → Serves mode m → IsModuleRefusal mode m e → ⊥
-module_apart mode m e is serves (inl refused) = checked_excludes m e is.checked refused
-module_apart mode m e is serves (inr (inl (also, line, unbuilt, same))) = none_some (first_unbuilt m) line is.built unbuilt
-module_apart mode m e is serves (inr (inr (also, running, refused))) = run_apart m e (serves_run mode m running serves) refused
+checked_apart : (mode : Mode) (m : Module) (e : Refusal) → IsBuilt m → Serves mode m → IsCheckedRefusal mode m e → ⊥
+checked_apart mode m e is serves (inl (line, unbuilt, same)) = none_some (first_unbuilt m) line is.built unbuilt
+checked_apart mode m e is serves (inr (also, running, refused)) = run_apart m e (serves_run mode m running serves) refused
+
+module_apart : (mode : Mode) (read m : Module) (e : Refusal) → IsCheckedFrom read m → IsBuilt m → Serves mode m → IsModuleRefusal mode read e → ⊥
+module_apart mode read m e from is serves (inl refused) = keeping_excludes read e from.keeps refused
+module_apart mode read m e from is serves (inr (other, also, refused)) =
+    checked_apart mode m e is serves (subst (λ k. IsCheckedRefusal mode k e) (also.is ∙ sym from.is) refused)
 
 -- an accepted text that serves a mode has no first refusal in it
 accepted_apart : (mode : Mode) (bytes : List ℕ) (m : Module) (refusal : Refusal) → IsAccepted bytes m → Serves mode m →
     IsFirstRefusal mode bytes refusal → ⊥
 accepted_apart mode bytes m refusal accepted serves (inl (long, is)) = absurd (omega (arith, accepted.short, long))
-accepted_apart mode bytes m refusal accepted serves (inr (short, inl unread)) = reads_excludes bytes m refusal accepted.reads unread
+accepted_apart mode bytes m refusal accepted serves (inr (short, inl unread)) = reads_excludes bytes accepted.read refusal accepted.reads unread
 accepted_apart mode bytes m refusal accepted serves (inr (short, inr (other, read, refused))) =
-    module_apart mode m refusal accepted.built serves
-    (subst (λ k. IsModuleRefusal mode k refusal) (reads_unique bytes other m read accepted.reads) refused)
+    module_apart mode accepted.read m refusal accepted.checks accepted.built serves
+    (subst (λ k. IsModuleRefusal mode k refusal) (reads_unique bytes other accepted.read read accepted.reads) refused)
 
 -- what was refused of a source that tells its bytes is their first refusal
 refused_first : (mode : Mode) (left left' : Option (List ℕ)) (bytes : List ℕ) (refusal : Refusal) → left ≡ Some bytes →

@@ -2,6 +2,7 @@
 use Rattle.std.proofs.Common.{◌≡◌, ◌≢◌, ◌+◌, ◌≤◌, ℕ, Option, Some, List, [], length, inl, inr, sym, refl, ap, ◌∙◌, subst}
 use Rattle.cg_io.specs.Told.{GivesAll, TakesExactly}
 use Rattle.cg_built.specs.Unbuilt.{IsBuilt}
+use Rattle.ir_check.specs.Checks.{IsCheckedFrom}
 use Rattle.ir_read.specs.Modules.{Reads}
 use Rattle.ir_syntax.specs.declared.module.Module.{Module}
 use Rattle.ir_syntax.specs.declared.refusal.Refusal.{Refusal}
@@ -10,7 +11,7 @@ use Rattle.obj_link.specs.declared.image.Image.{Image}
 use Rattle.obj_link.specs.declared.refusal.Unlinked.{Unlinked}
 use Rattle.obj_link.specs.declared.refusal.Unlinked.TheVariants.{NoMemory}
 use Rattle.llc_top.specs.Outcome.{Outcome, words_refused, read_failed, refuses, compiles, runs, err_due, Answers, HasReason, TakesRefused}
-use Rattle.llc_top.specs.Partial.{Told, ToldRefusal, ToldUnlinked, Written, Executed, HasRunReason, HasModuleReason, HasReadReason, HasTextReason}
+use Rattle.llc_top.specs.Partial.{Told, ToldRefusal, ToldUnlinked, Written, Executed, HasRunReason, HasModuleReason, HasCheckedReason, HasReadReason, HasTextReason}
 use Rattle.llc_top.specs.Refusals.{IsAccepted, refusal_of, text_limit}
 use Rattle.llc_top.specs.Streams.{SourceChange, SinkChange, IsReadable, TellsAll}
 use Rattle.llc_words.specs.Commands.{Command, command_of}
@@ -87,13 +88,23 @@ run_reason command m mode (refuses e) reason = (mode, reason)
 run_reason command m mode (compiles other) never = absurd never
 run_reason command m mode (runs asked image) reason = (mode, reason)
 
--- what a module of which all is built comes to, it comes to after it was read
-pub built_reason : (command : Command) (m : Module) → IsBuilt m → (outcome : Outcome) → HasModuleReason command m outcome → HasReadReason command m outcome
+-- what a module of which all is built comes to, it comes to after the checks
+pub built_reason : (command : Command) (m : Module) → IsBuilt m → (outcome : Outcome) → HasModuleReason command m outcome → HasCheckedReason command m outcome
 built_reason command m built words_refused never = never
 built_reason command m built read_failed never = never
-built_reason command m built (refuses e) reason = inr (inr (built, reason.0, reason.1))
+built_reason command m built (refuses e) reason = inr (built, reason.0, reason.1)
 built_reason command m built (compiles other) reason = (reason.0, reason.1, built)
 built_reason command m built (runs asked image) reason = (reason.0, built, reason.1)
+
+-- what a module that passed the checks comes to, the module that was read comes to
+pub checked_reason : (command : Command) (m checked : Module) → IsCheckedFrom m checked → (outcome : Outcome) →
+    HasCheckedReason command checked outcome → HasReadReason command m outcome
+checked_reason command m checked from words_refused never = never
+checked_reason command m checked from read_failed never = never
+checked_reason command m checked from (refuses e) reason = inr (checked, from, reason)
+checked_reason command m checked from (compiles other) (compiling, is, built) =
+    (compiling, subst (IsCheckedFrom m) (sym is) from, subst IsBuilt (sym is) built)
+checked_reason command m checked from (runs asked image) (running, built, reason) = (running, checked, from, built, reason)
 
 -- what a module that was read comes to, its text comes to
 pub text_reason : (command : Command) (bytes : List ℕ) (m : Module) → length bytes ≤ text_limit → Reads bytes m → (outcome : Outcome) →
@@ -101,9 +112,10 @@ pub text_reason : (command : Command) (bytes : List ℕ) (m : Module) → length
 text_reason command bytes m short reads words_refused never = never
 text_reason command bytes m short reads read_failed never = never
 text_reason command bytes m short reads (refuses e) reason = inr (m, reads, reason)
-text_reason command bytes m short reads (compiles other) (compiling, is, built) =
-    (compiling, subst (IsAccepted bytes) (sym is) (record { short = short; reads = reads; built = built }))
-text_reason command bytes m short reads (runs asked image) (running, built, reason) = (running, m, record { short = short; reads = reads; built = built }, reason)
+text_reason command bytes m short reads (compiles checked) (compiling, from, built) =
+    (compiling, record { short = short; read = m; reads = reads; checks = from; built = built })
+text_reason command bytes m short reads (runs asked image) (running, checked, from, built, reason) =
+    (running, checked, record { short = short; read = m; reads = reads; checks = from; built = built }, reason)
 
 -- a text of which more was read than a module may have
 pub long_reason : (mode : Mode) (left left' : Option (List ℕ)) (taken : ℕ) → (taken ≡ text_limit + 1) × TakesExactly taken left left' →

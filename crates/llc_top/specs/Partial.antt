@@ -2,6 +2,7 @@
 use Rattle.std.specs.Prelude.{◌≡◌, ◌≢◌, ◌⊎◌, ℕ, true, List, [], ◌∷◌}
 use Rattle.cg_part.specs.Linking.{IsImageOf}
 use Rattle.cg_part.specs.Text.{output_of, part_text}
+use Rattle.ir_check.specs.Checks.{IsCheckedFrom}
 use Rattle.ir_syntax.specs.declared.module.Module.{Module}
 use Rattle.ir_syntax.specs.declared.refusal.Refusal.{Refusal}
 use Rattle.ir_syntax.specs.declared.refusal.Refusal.TheVariants as refusals
@@ -14,19 +15,23 @@ use Rattle.rv_isa.specs.Lines.{ended}
 use Rattle.cg_built.specs.Main.{has_main}
 use Rattle.cg_built.specs.Unbuilt.{IsBuilt}
 use Rattle.llc_top.specs.Outcome.{Outcome, words_refused, read_failed, refuses, compiles, runs, Tells, TellsPart, refusal_text}
-use Rattle.llc_top.specs.Refusals.{IsAccepted, IsModuleRefusal, IsRunRefusal, IsTextRefusal, refusal_of}
+use Rattle.llc_top.specs.Refusals.{IsAccepted, IsCheckedRefusal, IsModuleRefusal, IsRunRefusal, IsTextRefusal, refusal_of}
 use Rattle.llc_top.specs.Streams.{SinkChange, TellsAll, CutOff}
 use Rattle.llc_top.specs.declared.status.Status.{Status}
 use Rattle.llc_top.specs.declared.status.Status.TheVariants as statuses
 
--- the text of a module was written, or a write failed, or memory ran out before
+-- a text was written, or a write failed, or memory ran out before
+abbrev pub WrittenText : List ℕ → Status → SinkChange → Type 0
+WrittenText text statuses.Done out = TellsAll text out
+WrittenText text statuses.WriteFault out = CutOff text out
+WrittenText text statuses.NoMemory out = TellsAll [] out
+WrittenText text statuses.Refused out = ⊥
+WrittenText text statuses.Words out = ⊥
+WrittenText text statuses.ReadFault out = ⊥
+
+-- that of a module
 abbrev pub Written : Module → Status → SinkChange → Type 0
-Written m statuses.Done out = TellsAll (output_of m) out
-Written m statuses.WriteFault out = CutOff (output_of m) out
-Written m statuses.NoMemory out = TellsAll [] out
-Written m statuses.Refused out = ⊥
-Written m statuses.Words out = ⊥
-Written m statuses.ReadFault out = ⊥
+Written m status out = WrittenText (output_of m) status out
 
 -- an image was run and all was told, or a write failed, or memory ran out before
 abbrev pub Executed : Command → Image → Status → SinkChange → SinkChange → Type 0
@@ -77,13 +82,22 @@ HasModuleReason command m (refuses e) = (command.mode ≡ modes.Run) × IsRunRef
 HasModuleReason command m (compiles other) = (command.mode ≡ modes.Compile) × (other ≡ m)
 HasModuleReason command m (runs asked image) = (command.mode ≡ modes.Run) × HasRunReason command m (runs asked image)
 
+-- why a module that passed the checks comes to this
+abbrev pub HasCheckedReason : Command → Module → Outcome → Type 0
+HasCheckedReason command m words_refused = ⊥
+HasCheckedReason command m read_failed = ⊥
+HasCheckedReason command m (refuses e) = IsCheckedRefusal command.mode m e
+HasCheckedReason command m (compiles other) = (command.mode ≡ modes.Compile) × (other ≡ m) × IsBuilt m
+HasCheckedReason command m (runs asked image) = (command.mode ≡ modes.Run) × IsBuilt m × HasRunReason command m (runs asked image)
+
 -- why a module that was read comes to this
 abbrev pub HasReadReason : Command → Module → Outcome → Type 0
 HasReadReason command m words_refused = ⊥
 HasReadReason command m read_failed = ⊥
 HasReadReason command m (refuses e) = IsModuleRefusal command.mode m e
-HasReadReason command m (compiles other) = (command.mode ≡ modes.Compile) × (other ≡ m) × IsBuilt m
-HasReadReason command m (runs asked image) = (command.mode ≡ modes.Run) × IsBuilt m × HasRunReason command m (runs asked image)
+HasReadReason command m (compiles checked) = (command.mode ≡ modes.Compile) × IsCheckedFrom m checked × IsBuilt checked
+HasReadReason command m (runs asked image) =
+    (command.mode ≡ modes.Run) × (checked : Module) × IsCheckedFrom m checked × IsBuilt checked × HasRunReason command checked (runs asked image)
 
 -- why a text that is not too long comes to this
 abbrev pub HasTextReason : Command → List ℕ → Outcome → Type 0

@@ -3,7 +3,7 @@ use Rattle.std.specs.Prelude.{◌≡◌, ◌≢◌, ◌<◌, ◌≤◌, ◌+◌,
 use Rattle.cg_built.specs.Unbuilt.{IsBuilt, first_unbuilt}
 use Rattle.cg_part.specs.Linking.{AreUnlinked}
 use Rattle.cg_part.specs.Text.{part_text}
-use Rattle.ir_check.specs.Checks.{IsCheckRefusal, IsChecked}
+use Rattle.ir_check.specs.Checks.{IsCheckRefusal, IsCheckedFrom}
 use Rattle.ir_read.specs.Modules as reading
 use Rattle.ir_read.specs.Modules.{Reads}
 use Rattle.ir_syntax.specs.declared.module.Module.{Module}
@@ -19,19 +19,21 @@ use Rattle.cg_built.specs.Main.{defines_main, has_main}
 abbrev pub text_limit : ℕ
 text_limit = 16777216
 
--- a text that is not too long and reads as a module that passes the checks and of which all is built
+-- a text that is not too long and reads as a module that keeps the rules: this is what the checks make of it, and all is built
 pub record IsAccepted (bytes : List ℕ) (m : Module) : Type 0 where
   pub short : length bytes ≤ text_limit
-  pub reads : Reads bytes m
+  pub read : Module
+  pub reads : Reads bytes read
+  pub checks : IsCheckedFrom read m
   pub built : IsBuilt m
 
 -- it is too long, and one byte more than the limit was read
 abbrev pub IsTooLong : List ℕ → Refusal → Type 0
 IsTooLong bytes e = (text_limit < length bytes) × (e ≡ refusals.TooLong (text_limit + 1))
 
--- it passes the checks, and something of it is not built yet
+-- something of it is not built yet
 abbrev pub IsNotBuilt : Module → Refusal → Type 0
-IsNotBuilt m e = IsChecked m × (line : ℕ) × (first_unbuilt m ≡ Some line) × (e ≡ refusals.NotYet line)
+IsNotBuilt m e = (line : ℕ) × (first_unbuilt m ≡ Some line) × (e ≡ refusals.NotYet line)
 
 -- it has no `main`, or one of another type
 abbrev pub IsMainRefusal : Module → Refusal → Type 0
@@ -53,9 +55,13 @@ IsLinkRefusal m e = (why : Unlinked) × AreUnlinked (part_text m ∷ []) why × 
 abbrev pub IsRunRefusal : Module → Refusal → Type 0
 IsRunRefusal m e = IsMainRefusal m e ⊎ ((has_main m ≡ true) × IsLinkRefusal m e)
 
--- a module is refused in a mode: it breaks a rule, or else something is not built, or else it is to be run and can't be
+-- a module that passed the checks is refused in a mode: something is not built, or else it is to be run and can't be
+abbrev pub IsCheckedRefusal : Mode → Module → Refusal → Type 0
+IsCheckedRefusal mode m e = IsNotBuilt m e ⊎ (IsBuilt m × (mode ≡ modes.Run) × IsRunRefusal m e)
+
+-- a module is refused in a mode: it breaks a rule, or else what the checks make of it is refused
 abbrev pub IsModuleRefusal : Mode → Module → Refusal → Type 0
-IsModuleRefusal mode m e = IsCheckRefusal m e ⊎ (IsNotBuilt m e ⊎ (IsBuilt m × (mode ≡ modes.Run) × IsRunRefusal m e))
+IsModuleRefusal mode m e = IsCheckRefusal m e ⊎ ((checked : Module) × IsCheckedFrom m checked × IsCheckedRefusal mode checked e)
 
 -- a text that is not too long is refused: it is not read, or else for its module
 abbrev pub IsTextRefusal : Mode → List ℕ → Refusal → Type 0

@@ -35,10 +35,10 @@ pub fn answer_refusal<E: Sink>(err: &mut E, refusal: Refusal) -> Status
 pub fn answer_unread<E: Sink>(err: &mut E, refusal: Refusal) -> Status
     ensures { ToldUnread refusal result (sink_change E.written E.faults err.old err.new) }
 {
-    match refusal {
-        Refusal::NoMemory => Status::NoMemory,
-        refusal => answer_refusal(err, refusal),
+    if matches!(&refusal, Refusal::NoMemory) {
+        return Status::NoMemory;
     }
+    answer_refusal(err, refusal)
 }
 
 /// Tells why a module is not linked, unless memory ran out.

@@ -2,7 +2,7 @@
 ghost use Rattle.std.specs.Prelude.{◌≡◌, IfOk};
 ghost use Rattle.cg_built.specs.Unbuilt.{IsBuilt};
 ghost use Rattle.cg_part.specs.Text.{output_of};
-ghost use Rattle.llc_top.specs.Partial.{Written};
+ghost use Rattle.llc_top.specs.Partial.{Written, WrittenText};
 ghost use Rattle.llc_top.specs.Streams.{sink_change};
 
 use crate::status::Status;
@@ -19,7 +19,13 @@ pub fn write_output<O: Sink>(alloc: Global, m: &Module, out: &mut O) -> Status
     let Ok(output) = output_text(alloc, m) else {
         return Status::NoMemory;
     };
-    match write_all(out, &output) {
+    write_text(output.as_slice(), out)
+}
+
+fn write_text<O: Sink>(text: &[u8], out: &mut O) -> Status
+    ensures { WrittenText text.now result (sink_change O.written O.faults out.old out.new) }
+{
+    match write_all(out, text) {
         Ok(()) => Status::Done,
         Err(_) => Status::WriteFault,
     }

@@ -2,7 +2,7 @@
 ghost use Rattle.std.specs.Prelude.{◌≡◌, ◌≤◌, ◌⊎◌, length};
 ghost use Rattle.cg_built.specs.Unbuilt.{IsBuilt};
 ghost use Rattle.llc_top.specs.Outcome.{Answers};
-ghost use Rattle.llc_top.specs.Partial.{HasTextReason, HasReadReason, HasModuleReason, HasRunReason};
+ghost use Rattle.llc_top.specs.Partial.{HasTextReason, HasReadReason, HasCheckedReason, HasModuleReason, HasRunReason};
 ghost use Rattle.llc_top.specs.Refusals.{text_limit};
 ghost use Rattle.llc_top.specs.Streams.{sink_change};
 
@@ -66,7 +66,7 @@ fn serve_checked<O: Sink, E: Sink>(
     out: &mut O,
     err: &mut E,
 ) -> Status
-    ensures answer { Answers (HasReadReason command.now checked.now) result
+    ensures answer { Answers (HasCheckedReason command.now checked.now) result
         (sink_change O.written O.faults out.old out.new) (sink_change E.written E.faults err.old err.new) }
     ensures untouched { (result ≡ Status.Done) ⊎ (result ≡ Status.NoMemory) ⊎ (result ≡ Status.WriteFault) ⊎
         (out.new ≡ out.old) }

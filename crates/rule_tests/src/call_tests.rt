@@ -1,7 +1,7 @@
 //! Calls that keep each rule on types, and that break it.
 use check_tests::modules::{Piece, read_pieces};
+use ir_aliases::AliasEnds;
 use ir_call_rules::push_call_lines;
-use ir_ident::NameMap;
 use ir_syntax::Module;
 use std::alloc::{AllocError, Global};
 
@@ -363,20 +363,11 @@ const SET_8: &str = "call void @llvm.memset.p0.i64(ptr align 8 %p, i8 0, ";
 /// What stands behind a call.
 const TAIL: &str = "\nret void }\n";
 
-/// The places of the functions of a module by their names.
-fn places(alloc: Global, module: &Module) -> Result<NameMap<'_, usize>, AllocError> {
-    let mut places = NameMap::new(alloc);
-    for (place, function) in module.functions.as_slice().iter().enumerate() {
-        places.add(&function.name, place)?;
-    }
-    Ok(places)
-}
-
-/// The lines of the calls that break a rule, where names stand for the functions that have them.
+/// The lines of the calls that break a rule.
 fn broken_lines(alloc: Global, module: &Module) -> Result<Vec<u32>, AllocError> {
-    let called = places(alloc, module)?;
+    let ends = AliasEnds::new(alloc, module)?;
     let mut found = Vec::new(alloc);
-    push_call_lines(alloc, module, &called, &mut found)?;
+    push_call_lines(alloc, &ends, &mut found)?;
     Ok(found)
 }
 

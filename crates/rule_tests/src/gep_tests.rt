@@ -1,6 +1,7 @@
 //! Offsets of constant `getelementptr`s, and what has one that is out of range.
 use check_tests::modules::{Piece, read_pieces};
-use ir_geps::{NamedTypes, gep_offset, parts_in_range, push_gep_lines};
+use ir_geps::{gep_offset, parts_in_range, push_gep_lines};
+use ir_sizes::NamedTypes;
 use ir_syntax::{AliasBase, GepParts, Module, TypeDef};
 use std::alloc::{AllocError, Global};
 

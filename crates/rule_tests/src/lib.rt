@@ -11,6 +11,8 @@ mod defined_tests;
 #[cfg(test)]
 mod gep_tests;
 #[cfg(test)]
+mod given_tests;
+#[cfg(test)]
 mod global_tests;
 #[cfg(test)]
 mod op_tests;

@@ -1,24 +1,12 @@
 //! The lines of items.
-ghost use Rattle.std.specs.Prelude.{◌≡◌, ◌++◌, not, Some, OnOk, map};
+ghost use Rattle.std.specs.Prelude.{◌≡◌, ◌++◌, Some, OnOk, map};
 ghost use Rattle.std.specs.List.{flat_map};
-ghost use Rattle.ir_check.specs.Signatures.{is_declarable};
 ghost use Rattle.cg_built.specs.Unbuilt.{unbuilt_by, unbuilt_in};
 
 use crate::built::body::is_built_body;
 use crate::built::head::is_built_head;
-use ir_check::is_declarable;
-use ir_syntax::{Alias, Block, Function, Global, TypeDef, push_line_if};
+use ir_syntax::{Alias, Block, Function, Global, push_line_if};
 use std::alloc::AllocError;
-
-/// Adds the lines of types.
-pub fn push_types(lines: &mut Vec<u32>, types: &[TypeDef]) -> Result<(), AllocError>
-    ensures { OnOk result (lines.new.items ≡ lines.old.items ++ map (λ t. t.line) types.now) }
-{
-    for ty in types {
-        lines.push(ty.line)?;
-    }
-    Ok(())
-}
 
 /// Adds the lines of variables.
 pub fn push_variables(lines: &mut Vec<u32>, variables: &[Global]) -> Result<(), AllocError>
@@ -26,16 +14,6 @@ pub fn push_variables(lines: &mut Vec<u32>, variables: &[Global]) -> Result<(), 
 {
     for variable in variables {
         lines.push(variable.line)?;
-    }
-    Ok(())
-}
-
-/// Adds the lines of functions.
-pub fn push_functions(lines: &mut Vec<u32>, functions: &[Function]) -> Result<(), AllocError>
-    ensures { OnOk result (lines.new.items ≡ lines.old.items ++ map (λ f. f.line) functions.now) }
-{
-    for function in functions {
-        lines.push(function.line)?;
     }
     Ok(())
 }
@@ -65,7 +43,7 @@ fn push_function(lines: &mut Vec<u32>, function: &Function) -> Result<(), AllocE
 {
     match &function.blocks {
         Some(blocks) => push_definition(lines, function, blocks.as_slice()),
-        None => push_line_if(lines, is_strange(function), function.line),
+        None => Ok(()),
     }
 }
 
@@ -83,11 +61,4 @@ fn push_definition(
         }
         [] => push_line_if(lines, true, function.line),
     }
-}
-
-/// Whether a function may not be declared.
-fn is_strange(function: &Function) -> bool
-    ensures { result ≡ not (is_declarable function.now) }
-{
-    !is_declarable(function)
 }

@@ -2,7 +2,7 @@ use Rattle.std.proofs.Common.{◌∙◌, sym}
 use Rattle.std.proofs.lemmas.Iterator.{YieldsList-from_slice}
 use Rattle.std.proofs.lemmas.Iterator.Adapters.{option_map_id}
 use Rattle.std.proofs.lemmas.Iterator.Consumers.{YieldsList-at, YieldsList-from_copied, min_from_yields_List}
-use Rattle.ir_check.proofs.checking.least_line.Goals as goal
+use Rattle.ir_check.proofs.faults.least_line.Goals as goal
 
 pub returns : goal.returns
 returns c =
