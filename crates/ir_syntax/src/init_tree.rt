@@ -66,7 +66,7 @@ impl Drop for InitTreeList {
 
 impl InitTreeList {
     /// The list with the last initialiser in front. No initialiser moves.
-    pub(crate) fn turned_round(mut self) -> InitTreeList
+    pub fn turned_round(mut self) -> InitTreeList
         ensures { parts_of (inits_in result) ≡ parts_before (inits_in self) }
     {
         let mut list = InitTreeList::End;

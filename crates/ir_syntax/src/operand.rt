@@ -6,6 +6,7 @@ use crate::ty::TyText;
 use ir_ident::NameUse;
 use std::alloc::{AllocError, Global};
 use std::marker::Model;
+use std::mem;
 
 /// An integer literal with its type.
 pub struct TypedLiteral {
@@ -115,6 +116,14 @@ impl ConstantGep {
         ensures { result.now ≡ self.now }
     {
         &self.parts
+    }
+
+    /// Puts another type and other indices in place of its own.
+    pub fn set_path(&mut self, ty: TyText, indices: TypedLiterals)
+        ensures { self.new ≡ record self.old { ty = ty; indices = indices } }
+    {
+        drop(mem::replace(&mut self.parts.ty, ty));
+        drop(mem::replace(&mut self.parts.indices, indices));
     }
 }
 

@@ -64,6 +64,13 @@ impl Cases {
     {
         self.cases.as_slice()
     }
+
+    /// The cases in order, to be taken apart.
+    pub fn into_vec(self) -> Vec<Case>
+        ensures { result.items ≡ self }
+    {
+        self.cases
+    }
 }
 
 /// What ends a block.
