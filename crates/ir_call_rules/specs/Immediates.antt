@@ -1,8 +1,8 @@
 -- The arguments of intrinsics that are constants (LangRef, "Intrinsic Functions").
 use Rattle.std.specs.Prelude.{ℕ, ◌%◌, Bool, true, false, ◌&&◌, ◌==◌, nat_le, Option, None, Some, List, [], ◌∷◌, if◌then◌else◌}
 use Rattle.ir_call_rules.specs.Pieces.{piece_count}
-use Rattle.ir_call_rules.specs.declared.intrinsic.IntegerFunction.{IntegerFunction}
-use Rattle.ir_call_rules.specs.declared.intrinsic.IntegerFunction.TheVariants.{Bswap, Ctlz, Cttz, Abs}
+use Rattle.cg_num.specs.declared.function.IntegerFunction.{IntegerFunction}
+use Rattle.cg_num.specs.declared.function.IntegerFunction.TheVariants.{Bswap, Ctlz, Cttz, Abs}
 use Rattle.ir_call_rules.specs.declared.intrinsic.Intrinsic.{Intrinsic}
 use Rattle.ir_call_rules.specs.declared.intrinsic.Intrinsic.TheVariants.{Integer, Trap, Memcpy, Memmove, Memset}
 use Rattle.ir_syntax.specs.Literals.{wrapped}

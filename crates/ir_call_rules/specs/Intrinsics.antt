@@ -2,8 +2,8 @@
 use Rattle.std.specs.Prelude.{ℕ, ◌+◌, ◌*◌, ◌-◌, Bool, ◌&&◌, nat_eq, nat_le, Option, None, Some, option_map, List, [], ◌∷◌, codes, drop, length, if◌then◌else◌}
 use Rattle.std.specs.List.{starts_with}
 use Rattle.std.specs.Str.{bytes_eq}
-use Rattle.ir_call_rules.specs.declared.intrinsic.IntegerFunction.{IntegerFunction}
-use Rattle.ir_call_rules.specs.declared.intrinsic.IntegerFunction.TheVariants.{Ctpop, Bswap, Ctlz, Cttz, Abs, Fshl, Fshr, Smax, Smin, Umax, Umin}
+use Rattle.cg_num.specs.declared.function.IntegerFunction.{IntegerFunction}
+use Rattle.cg_num.specs.declared.function.IntegerFunction.TheVariants.{Ctpop, Bswap, Ctlz, Cttz, Abs, Fshl, Fshr, Smax, Smin, Umax, Umin}
 use Rattle.ir_call_rules.specs.declared.intrinsic.Intrinsic.{Intrinsic}
 use Rattle.ir_call_rules.specs.declared.intrinsic.Intrinsic.TheVariants.{Integer, Trap, Memcpy, Memmove, Memset}
 use Rattle.ir_ident.specs.NameMaps.{or_else}

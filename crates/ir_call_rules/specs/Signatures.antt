@@ -1,8 +1,8 @@
 -- The types of intrinsics (LangRef, "Intrinsic Functions").
 use Rattle.std.specs.Prelude.{ℕ, Bool, true, false, ◌&&◌, Option, None, Some, List, [], ◌∷◌, map}
 use Rattle.ir_call_rules.specs.Calls.{are_of_types}
-use Rattle.ir_call_rules.specs.declared.intrinsic.IntegerFunction.{IntegerFunction}
-use Rattle.ir_call_rules.specs.declared.intrinsic.IntegerFunction.TheVariants.{Ctpop, Bswap, Ctlz, Cttz, Abs, Fshl, Fshr, Smax, Smin, Umax, Umin}
+use Rattle.cg_num.specs.declared.function.IntegerFunction.{IntegerFunction}
+use Rattle.cg_num.specs.declared.function.IntegerFunction.TheVariants.{Ctpop, Bswap, Ctlz, Cttz, Abs, Fshl, Fshr, Smax, Smin, Umax, Umin}
 use Rattle.ir_call_rules.specs.declared.intrinsic.Intrinsic.{Intrinsic}
 use Rattle.ir_call_rules.specs.declared.intrinsic.Intrinsic.TheVariants.{Integer, Trap, Memcpy, Memmove, Memset}
 use Rattle.ir_op_rules.specs.Values.{are_same}

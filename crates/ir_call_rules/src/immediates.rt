@@ -2,8 +2,9 @@
 ghost use Rattle.std.specs.Prelude.{◌≡◌};
 ghost use Rattle.ir_call_rules.specs.Immediates.{align_or_1, copy_fits, immediates_fit, integer_fits, is_constant, is_false, is_flagged, is_small, length_fits, lesser, set_fits};
 
-use crate::intrinsic::{IntegerFunction, Intrinsic};
+use crate::intrinsic::Intrinsic;
 use crate::pieces::piece_count;
+use cg_num::IntegerFunction;
 use ir_syntax::{Arg, Operand};
 
 /// The most bytes that a memory intrinsic accesses.

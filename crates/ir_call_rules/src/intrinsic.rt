@@ -1,31 +1,6 @@
 //! Intrinsics (LangRef, "Intrinsic Functions").
 
-/// A function of integers of one width.
-#[derive(Clone, Copy, PartialEq, Eq)]
-pub enum IntegerFunction {
-    /// `llvm.ctpop`.
-    Ctpop,
-    /// `llvm.bswap`.
-    Bswap,
-    /// `llvm.ctlz`.
-    Ctlz,
-    /// `llvm.cttz`.
-    Cttz,
-    /// `llvm.abs`.
-    Abs,
-    /// `llvm.fshl`.
-    Fshl,
-    /// `llvm.fshr`.
-    Fshr,
-    /// `llvm.smax`.
-    Smax,
-    /// `llvm.smin`.
-    Smin,
-    /// `llvm.umax`.
-    Umax,
-    /// `llvm.umin`.
-    Umin,
-}
+use cg_num::IntegerFunction;
 
 /// A function that LLVM IR defines.
 #[derive(Clone, Copy, PartialEq, Eq)]

@@ -15,5 +15,5 @@ mod signatures;
 mod spelling;
 
 pub use functions::push_call_lines;
-pub use intrinsic::{IntegerFunction, Intrinsic};
+pub use intrinsic::Intrinsic;
 pub use spelling::intrinsic_of;

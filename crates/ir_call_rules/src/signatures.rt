@@ -4,7 +4,8 @@ ghost use Rattle.ir_call_rules.specs.Calls.{are_of_types};
 ghost use Rattle.ir_call_rules.specs.Signatures.{has_result, has_signature, integer_params, params_of, result_of};
 
 use crate::args::are_of_types;
-use crate::intrinsic::{IntegerFunction, Intrinsic};
+use crate::intrinsic::Intrinsic;
+use cg_num::IntegerFunction;
 use ir_op_rules::are_same;
 use ir_scope::{Scalar, scalar_of};
 use ir_syntax::{Arg, TyText};

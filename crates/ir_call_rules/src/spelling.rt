@@ -2,7 +2,8 @@
 ghost use Rattle.std.specs.Prelude.{◌≡◌, map};
 ghost use Rattle.ir_call_rules.specs.Intrinsics.{integer_functions, integer_in, intrinsic_of, is_between, named_or, up_to_widest, width_after, width_in};
 
-use crate::intrinsic::{IntegerFunction, Intrinsic};
+use crate::intrinsic::Intrinsic;
+use cg_num::IntegerFunction;
 
 /// The functions of integers of each width, by their names without it.
 const INTEGER_FUNCTIONS: [(&[u8], IntegerFunction); 11] = [
