@@ -1,2 +1,4 @@
 pub mod Alignments
 pub mod Ends
+pub mod Lists
+pub mod Nodes
