@@ -1,12 +1,10 @@
 -- Named types, measured in rounds.
-use Rattle.std.proofs.Common.{◌≡◌, ◌∙◌, ℕ, zero, suc, ◌≤◌, ◌<◌, Bool, true, false, Option, None, Some, is_some, option_map, List, [], ◌∷◌, ◌++◌, ◌+◌, take, length, get_or, IfSome, subst, inl, inr, if◌then◌else◌, refl, sym, ap, arith}
+use Rattle.std.proofs.Common.{◌≡◌, ◌∙◌, ℕ, zero, suc, ◌≤◌, ◌<◌, Bool, true, false, Option, None, Some, is_some, option_map, List, [], ◌∷◌, if◌then◌else◌, refl, sym, ap, arith}
 use Rattle.std.specs.Option.{option_and_then}
-use Rattle.std.proofs.lemmas.Bool.{cases_lt}
-use Rattle.std.proofs.lemmas.List.{map_more}
 use Rattle.ir_sizes.proofs.ExtentLemmas.{extent_of, kept, kept-struct}
 use Rattle.ir_sizes.proofs.LevelLemmas.{Knows, measured-is, measured_fields-is, measured_fields-within, no_struct}
-use Rattle.ir_sizes.specs.Extents.{IsExtent, no_fields, struct_extent}
-use Rattle.ir_sizes.specs.Measured.{AreExtents, IsTable, body_extent, extent_at, extents_after, extents_by, known_by, measured, measured_fields, next_extents, place_of, within_levels}
+use Rattle.ir_sizes.specs.Extents.{no_fields, struct_extent}
+use Rattle.ir_sizes.specs.Measured.{IsTable, body_extent, extent_at, extents_after, extents_by, known_by, measured, measured_fields, next_extents, place_of, within_levels}
 use Rattle.ir_sizes.specs.Sized.{body_of, is_sized, is_small, level_limit, named_by, replaced}
 use Rattle.ir_sizes.specs.declared.extent.Extent.{Extent}
 use Rattle.ir_sizes.specs.declared.table.Table.{Table}
@@ -85,55 +83,9 @@ is_some-measured defs ty =
     ap is_some (measured-is defs (extents_by defs (extents_after defs level_limit)) ty level_limit (knows-after defs level_limit (omega arith)))
     ∙ is_some-kept (replaced defs level_limit ty)
 
--- one more definition measured
-pub next_extents-more : (known : Name → Option Extent) (defs : List TypeDef) (i : ℕ) (d : TypeDef) (extents more : List (Option Extent)) (extent : Option Extent) →
-    i < length defs → d ≡ get_or defs i d → extents ≡ next_extents (take i defs) known → extent ≡ body_extent known d.body → more ≡ extents ++ extent ∷ [] →
-    more ≡ next_extents (take (i + 1) defs) known
-next_extents-more known defs i d extents more extent inside is before here pushed =
-    pushed
-    ∙ (λ k. before k ++ here k ∷ [])
-    ∙ ap (λ x. next_extents (take i defs) known ++ body_extent known x.body ∷ []) is
-    ∙ sym (map_more (λ x. body_extent known x.body) defs i d inside)
-
-pub are_extents-push : (extents : List (Option Extent)) (extent : Option Extent) → AreExtents extents → IfSome extent IsExtent → AreExtents (extents ++ extent ∷ [])
-are_extents-push [] extent are is zero = is
-are_extents-push [] extent are is (suc place) = tt
-are_extents-push (e ∷ extents) extent are is zero = are zero
-are_extents-push (e ∷ extents) extent are is (suc place) = are_extents-push extents extent (λ p. are (suc p)) is place
-
-pub no-extents : (extents : List (Option Extent)) → extents ≡ [] → AreExtents extents
-no-extents extents none = subst AreExtents (sym none) (λ place. tt)
-
-pub none-after : (defs : List TypeDef) (extents : List (Option Extent)) → extents ≡ [] → extents ≡ extents_after defs 0
-unfolding extents_after
-none-after defs extents none = none
-
 -- a table knows what it knows by the places of the definitions
 known_by-is : (defs : List TypeDef) (rounds : ℕ) (table : Table) → IsTable defs rounds table → known_by table ≡ extents_by defs (extents_after defs rounds)
 known_by-is defs rounds table is = λ k name. option_and_then (extent_at (is.0 k)) (is.1 name k)
-
-pub next-after : (defs : List TypeDef) (rounds : ℕ) (table : Table) → IsTable defs rounds table → next_extents defs (known_by table) ≡ extents_after defs (rounds + 1)
-unfolding extents_after
-next-after defs rounds table is =
-    let at : suc rounds ≡ rounds + 1 = omega arith in
-    ap (next_extents defs) (known_by-is defs rounds table is) ∙ ap (extents_after defs) at
-
--- once a round changes nothing, no later one does
-stays : (defs : List TypeDef) (rounds : ℕ) → extents_after defs (suc rounds) ≡ extents_after defs rounds → (most : ℕ) → rounds ≤ most → extents_after defs most ≡ extents_after defs rounds
-unfolding extents_after
-stays defs rounds same zero low = let at : zero ≡ rounds = omega (arith, low) in ap (extents_after defs) at
-stays defs rounds same (suc most) low = elim (cases_lt most rounds) [
-  | inl last ↦ let at : suc most ≡ rounds = omega (arith, low, last) in ap (extents_after defs) at
-  | inr below ↦ ap (λ extents. next_extents defs (extents_by defs extents)) (stays defs rounds same most below) ∙ same
-]
-
-pub whole-after : (defs : List TypeDef) (rounds : ℕ) (table : Table) (next : List (Option Extent)) → rounds < level_limit → IsTable defs rounds table →
-    next ≡ next_extents defs (known_by table) → next ≡ table.extents.items → IsTable defs level_limit table
-whole-after defs rounds table next few is made same =
-    let at : suc rounds ≡ rounds + 1 = omega arith in
-    let again : extents_after defs (suc rounds) ≡ extents_after defs rounds =
-    ap (extents_after defs) at ∙ sym (next-after defs rounds table is) ∙ sym made ∙ same ∙ is.0 in
-    (is.0 ∙ sym (stays defs rounds again level_limit (omega (arith, few))), is.1)
 
 -- a type has the extent of the tree that it stands for, by a table of all rounds
 pub measured-by_table : (defs : List TypeDef) (table : Table) (ty : TextTree) → IsTable defs level_limit table → measured (known_by table) level_limit ty ≡ kept (replaced defs level_limit ty)

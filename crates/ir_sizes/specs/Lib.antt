@@ -1,4 +1,5 @@
 pub mod Extents
 pub mod Measured
 pub mod Named
+pub mod Passes
 pub mod Sized

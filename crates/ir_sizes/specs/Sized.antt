@@ -63,13 +63,17 @@ is_small (Some tree) = nat_le (greatest_size tree) size_limit && nat_le (places_
 abbrev pub is_sized : List TypeDef → TextTree → Bool
 is_sized defs ty = is_small (replaced defs level_limit ty)
 
-abbrev pub small_layout : Option Tree → Option Layout
-small_layout None = None
-small_layout (Some tree) = if is_small (Some tree) then Some (layout_of tree) else None
+-- a type that is small, no other
+abbrev pub small_tree : Option Tree → Option Tree
+small_tree tree = if is_small tree then tree else None
+
+-- a type that has a size, with the names in it replaced
+abbrev pub sized_tree : List TypeDef → TextTree → Option Tree
+sized_tree defs ty = small_tree (replaced defs level_limit ty)
 
 -- the layout of a type that has a size
 abbrev pub layout_in : List TypeDef → TextTree → Option Layout
-layout_in defs ty = small_layout (replaced defs level_limit ty)
+layout_in defs ty = option_map layout_of (sized_tree defs ty)
 
 -- the lines of some of the definitions, those of types that have no size
 abbrev pub unsized_lines_in : List TypeDef → List TypeDef → List ℕ

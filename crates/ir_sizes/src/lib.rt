@@ -4,6 +4,7 @@
 mod extent;
 mod measured;
 mod named;
+mod replaced;
 mod rounds;
 mod sized;
 mod table;

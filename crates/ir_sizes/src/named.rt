@@ -65,7 +65,7 @@ impl<'a> NamedTypes<'a> {
 
     /// The struct that a name stands for.
     #[tactic(auto, using(crate::proofs::BodyLemmas::body_first))]
-    fn body(&self, name: &Name) -> Option<&'a TypeTree>
+    pub(crate) fn body(&self, name: &Name) -> Option<&'a TypeTree>
         ensures { option_map tree_of (option_copied result) ≡ struct_in (body_of self.now name.now) }
     {
         let tree = self.def(name)?.body.tree();
