@@ -1,0 +1,3 @@
+pub mod Inits
+pub mod Modules
+pub mod Rewritten
