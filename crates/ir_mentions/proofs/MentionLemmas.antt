@@ -7,7 +7,8 @@ use Rattle.ir_sizes.proofs.RoundLemmas.{measured-by_table}
 use Rattle.ir_cfg.specs.Capped.{capped}
 use Rattle.ir_syntax.specs.Definitions.{has_body}
 use Rattle.ir_sizes.specs.Measured.{IsTable, known_by, measured}
-use Rattle.ir_mentions.specs.Mentions.{mentioned_places, needed_types, sized_places, type_places, written_types}
+use Rattle.ir_mentions.specs.Mentions.{needed_types, places_by, sized_places, type_places, written_types}
+use Rattle.ir_mentions.specs.declared.which.Which.{Which}
 use Rattle.ir_sizes.specs.Sized.{is_small, level_limit, replaced}
 use Rattle.ir_sizes.specs.declared.extent.Extent.{Extent}
 use Rattle.ir_sizes.specs.declared.table.Table.{Table}
@@ -43,12 +44,12 @@ capped-behind : (needed total : ℕ) → min (needed + capped total) 18446744073
 capped-behind needed total = omega arith
 
 -- the places of all mentions, where the types that functions need are counted apart
-pub mentioned-is : (m : Module) (needed total all : ℕ) → needed ≡ (if list_any has_body m.functions then 3 else 0) →
-    total ≡ capped (sum_by (type_places m.types) (written_types m)) → all ≡ min (needed + total) 18446744073709551615 → all ≡ capped (mentioned_places m)
-mentioned-is m needed total all few written sum =
+pub mentioned-is : (which : Which) (m : Module) (needed total all : ℕ) → needed ≡ (if list_any has_body m.functions then 3 else 0) →
+    total ≡ capped (sum_by (type_places m.types) (written_types which m)) → all ≡ min (needed + total) 18446744073709551615 → all ≡ capped (places_by which m)
+mentioned-is which m needed total all few written sum =
     sum
     ∙ (λ k. min (few k + written k) 18446744073709551615)
-    ∙ capped-behind (if list_any has_body m.functions then 3 else 0) (sum_by (type_places m.types) (written_types m))
+    ∙ capped-behind (if list_any has_body m.functions then 3 else 0) (sum_by (type_places m.types) (written_types which m))
     ∙ ap capped
-    (ap (λ n. n + sum_by (type_places m.types) (written_types m)) (sym (needed-places m.types (list_any has_body m.functions)))
-    ∙ sym (sum_by-append (type_places m.types) (needed_types m) (written_types m)))
+    (ap (λ n. n + sum_by (type_places m.types) (written_types which m)) (sym (needed-places m.types (list_any has_body m.functions)))
+    ∙ sym (sum_by-append (type_places m.types) (needed_types m) (written_types which m)))

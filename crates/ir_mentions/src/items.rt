@@ -1,24 +1,28 @@
 //! The types that the items of a module write.
-ghost use Rattle.std.specs.Prelude.{◌≡◌, ◌++◌, IfOk, OnOk};
+ghost use Rattle.std.specs.Prelude.{◌≡◌, ◌++◌, IfOk, OnOk, Some};
 ghost use Rattle.std.specs.List.{flat_map};
-ghost use Rattle.ir_mentions.specs.Mentions.{function_types, global_types, written_types};
+ghost use Rattle.ir_mentions.specs.Mentions.{body_by, function_types, global_types, written_types};
 ghost use Rattle.ir_mentions.specs.PartTypes.{block_types, part_types};
-ghost use Rattle.ir_cfg.specs.Reached.{reachable_blocks};
 ghost use Rattle.ir_walk.specs.Parts.{signature_parts};
 
-use crate::blocks::push_reachable_blocks;
+use crate::blocks::push_blocks;
 use crate::mention::{Mention, Mentions};
+use crate::which::Which;
 use ir_syntax::{Block, Function, Global as GlobalVariable, Module};
 use ir_walk::{Visitor, walk_signature};
 use std::alloc::{AllocError, Global};
 
 /// The types of defined variables, and those that defined functions write, in order.
-pub(crate) fn written_types(alloc: Global, m: &Module) -> Result<Vec<Mention<'_>>, AllocError>
-    ensures { IfOk result (λ types. types.items ≡ written_types m.now) }
+pub fn written_types(
+    alloc: Global,
+    m: &Module,
+    which: Which,
+) -> Result<Vec<Mention<'_>>, AllocError>
+    ensures { IfOk result (λ types. types.items ≡ written_types which m.now) }
 {
     let mut mentions = Mentions::new(alloc);
     push_globals(&mut mentions, m.globals.as_slice())?;
-    push_functions(alloc, &mut mentions, m.functions.as_slice())?;
+    push_functions(alloc, &mut mentions, which, m.functions.as_slice())?;
     Ok(mentions.types)
 }
 
@@ -49,12 +53,13 @@ fn push_global<'a>(
 fn push_functions<'a>(
     alloc: Global,
     mentions: &mut Mentions<'a>,
+    which: Which,
     functions: &'a [Function],
 ) -> Result<(), AllocError>
-    ensures { OnOk result (mentions.new.types.items ≡ mentions.old.types.items ++ flat_map function_types functions.now) }
+    ensures { OnOk result (mentions.new.types.items ≡ mentions.old.types.items ++ flat_map (function_types which) functions.now) }
 {
     for function in functions {
-        push_function(alloc, mentions, function)?;
+        push_function(alloc, mentions, which, function)?;
     }
     Ok(())
 }
@@ -62,12 +67,13 @@ fn push_functions<'a>(
 fn push_function<'a>(
     alloc: Global,
     mentions: &mut Mentions<'a>,
+    which: Which,
     function: &'a Function,
 ) -> Result<(), AllocError>
-    ensures { OnOk result (mentions.new.types.items ≡ mentions.old.types.items ++ function_types function.now) }
+    ensures { OnOk result (mentions.new.types.items ≡ mentions.old.types.items ++ function_types which function.now) }
 {
     match &function.blocks {
-        Some(blocks) => push_defined(alloc, mentions, function, blocks.as_slice()),
+        Some(blocks) => push_defined(alloc, mentions, which, function, blocks.as_slice()),
         None => Ok(()),
     }
 }
@@ -75,12 +81,13 @@ fn push_function<'a>(
 fn push_defined<'a>(
     alloc: Global,
     mentions: &mut Mentions<'a>,
+    which: Which,
     function: &'a Function,
     blocks: &'a [Block],
 ) -> Result<(), AllocError>
     ensures { OnOk result (mentions.new.types.items
-        ≡ mentions.old.types.items ++ (flat_map part_types (signature_parts function.now) ++ flat_map block_types (reachable_blocks blocks.now))) }
+        ≡ mentions.old.types.items ++ (flat_map part_types (signature_parts function.now) ++ flat_map block_types (body_by which (Some blocks.now)))) }
 {
     walk_signature(function, mentions)?;
-    push_reachable_blocks(alloc, mentions, blocks)
+    push_blocks(alloc, mentions, which, blocks)
 }

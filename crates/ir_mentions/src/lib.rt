@@ -5,5 +5,9 @@ mod blocks;
 mod items;
 mod mention;
 mod places;
+mod which;
 
-pub use places::mentioned_places;
+pub use items::written_types;
+pub use mention::Mention;
+pub use places::{is_any_defined, mentioned_places, places_by};
+pub use which::Which;

@@ -11,7 +11,7 @@ use std::marker::Model;
 
 /// A type where it is written. Contracts see the type.
 #[derive(Drop)]
-pub(crate) struct Mention<'a> {
+pub struct Mention<'a> {
     pub(crate) ty: &'a TyText,
 }
 
@@ -24,6 +24,15 @@ impl<'a> Model for Mention<'a> {
     ghost coded = { tree_code };
 
     ghost view = { λ m. m.ty.now };
+}
+
+impl<'a> Mention<'a> {
+    /// The type.
+    pub fn ty(&self) -> &'a TyText
+        ensures { result.now ≡ self.now }
+    {
+        self.ty
+    }
 }
 
 /// The types that walks found where they are written, in order.
