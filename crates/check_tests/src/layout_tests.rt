@@ -4,7 +4,7 @@ use ty_core::{Layout, TooBig, Ty, TyList, layout};
 
 /// A type of at most two levels, over integers of some width.
 #[derive(Clone, Copy)]
-enum Shape {
+pub(crate) enum Shape {
     /// An integer.
     Int(u8),
     Ptr,
@@ -23,7 +23,7 @@ enum Shape {
 }
 
 /// Types, and the size and the alignment of each that is not too big.
-const LAYOUTS: &[(Shape, Option<(u64, u64)>)] = &[
+pub(crate) const LAYOUTS: &[(Shape, Option<(u64, u64)>)] = &[
     // Scalars take whole bytes and are aligned to the next power of two.
     (Shape::Int(1), Some((1, 1))),
     (Shape::Int(8), Some((1, 1))),
@@ -49,7 +49,7 @@ fn array(alloc: Global, len: u32, elem: Ty) -> Result<Ty, AllocError> {
     Ok(Ty::Array { len, elem })
 }
 
-fn structure(alloc: Global, packed: bool, fields: Vec<Ty>) -> Result<Ty, AllocError> {
+pub(crate) fn structure(alloc: Global, packed: bool, fields: Vec<Ty>) -> Result<Ty, AllocError> {
     let fields = TyList::from_vec(alloc, fields)?;
     Ok(Ty::Struct { packed, fields })
 }
@@ -62,7 +62,7 @@ fn pair(alloc: Global, packed: bool, first: u8, second: Ty) -> Result<Ty, AllocE
 }
 
 /// The type of a shape.
-fn ty_of(alloc: Global, shape: Shape) -> Result<Ty, AllocError> {
+pub(crate) fn ty_of(alloc: Global, shape: Shape) -> Result<Ty, AllocError> {
     match shape {
         Shape::Int(bits) => Ok(Ty::Int { bits }),
         Shape::Ptr => Ok(Ty::Ptr),
@@ -80,7 +80,7 @@ fn ty_of(alloc: Global, shape: Shape) -> Result<Ty, AllocError> {
 }
 
 /// Whether a type has this size and alignment, or is too big.
-fn has_layout(ty: &Ty, wanted: Option<(u64, u64)>) -> bool {
+pub(crate) fn has_layout(ty: &Ty, wanted: Option<(u64, u64)>) -> bool {
     match (layout(ty), wanted) {
         (Ok(Layout { size, align }), Some(wanted)) => (size, align) == wanted,
         (Err(TooBig), None) => true,

@@ -10,6 +10,10 @@ mod limits_tests;
 mod mention_tests;
 pub mod modules;
 #[cfg(test)]
+mod plan_tests;
+#[cfg(test)]
+mod planned_tests;
+#[cfg(test)]
 mod repeated_tests;
 #[cfg(test)]
 mod sized_tests;

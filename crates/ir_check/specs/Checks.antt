@@ -13,6 +13,7 @@ use Rattle.ir_prune.specs.Pruned.{pruned}
 use Rattle.ir_syntax.specs.declared.module.Module.{Module}
 use Rattle.ir_syntax.specs.declared.refusal.Refusal.{Refusal}
 use Rattle.ir_syntax.specs.declared.refusal.Refusal.TheVariants as refusals
+use Rattle.ir_unname.specs.Unnamed.{unnamed}
 
 -- the least line at which a name is defined again
 abbrev pub first_repeated : Module → Option ℕ
@@ -52,9 +53,9 @@ IsCheckRefusal m (refusals.AliasRule name) = KeepsFlow m × IsAliasFault m name
 IsCheckRefusal m (refusals.Count which) = KeepsAliases m × (exceeded_limit m ≡ Some which)
 IsCheckRefusal m other = ⊥
 
--- what the checks make of a module: the blocks that no path reaches are dropped
+-- what the checks make of a module: the blocks that no path reaches are dropped, and so are the names of types
 abbrev pub checked_module : Module → Module
-checked_module m = pruned m
+checked_module m = unnamed (pruned m)
 
 -- one module is what the checks make of another, which keeps the rules
 pub record IsCheckedFrom (m checked : Module) : Type 0 where

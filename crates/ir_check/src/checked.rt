@@ -4,6 +4,7 @@ ghost use Rattle.ir_check.specs.Checks.{IsChecked, IsCheckedFrom, KeepsRules};
 
 use ir_prune::prune;
 use ir_syntax::Module;
+use ir_unname::without_type_names;
 use std::alloc::{AllocError, Global};
 use std::marker::Model;
 
@@ -43,7 +44,7 @@ impl Checked {
         requires { KeepsRules m }
         ensures { IfOk result (IsCheckedFrom m) }
     {
-        let module = prune(alloc, m)?;
+        let module = without_type_names(alloc, prune(alloc, m)?)?;
         Ok(Checked { module })
     }
 

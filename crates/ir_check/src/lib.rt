@@ -7,9 +7,11 @@ mod checking;
 mod faults;
 mod hosts;
 mod limits;
+mod types;
 
 pub use checked::Checked;
 pub use checking::check;
 pub use faults::least_line;
 pub use hosts::is_i32;
 pub use limits::exceeded_limit;
+pub use types::types_of;

@@ -20,3 +20,5 @@ mod op_tests;
 mod phi_tests;
 #[cfg(test)]
 mod prune_tests;
+#[cfg(test)]
+mod unname_tests;
