@@ -21,6 +21,13 @@ rs2_of word = word / 0x100000 % 0x20
 abbrev pub funct7_of : ℕ → ℕ
 funct7_of word = word / 0x2000000 % 0x80
 
+-- Shifts by an amount have it in 25..20, and above it funct6 31..26; those of 32 bits have it where rs2 is.
+abbrev pub funct6_of : ℕ → ℕ
+funct6_of word = word / 0x4000000 % 0x40
+
+abbrev pub amount_of : ℕ → ℕ
+amount_of word = word / 0x100000 % 0x40
+
 -- The bits of each immediate, from bit 0 up.
 
 -- imm[11:0] 31..20
@@ -55,6 +62,10 @@ r_word opcode funct3 funct7 rd rs1 rs2 =
 abbrev pub i_word : ℕ → ℕ → ℕ → ℕ → ℕ → ℕ
 i_word opcode funct3 rd rs1 bits =
     opcode + 0x80 * rd + 0x1000 * funct3 + 0x8000 * rs1 + 0x100000 * bits
+
+abbrev pub shift_word : ℕ → ℕ → ℕ → ℕ → ℕ → ℕ → ℕ
+shift_word opcode funct3 funct6 rd rs1 amount =
+    opcode + 0x80 * rd + 0x1000 * funct3 + 0x8000 * rs1 + 0x100000 * amount + 0x4000000 * funct6
 
 abbrev pub s_word : ℕ → ℕ → ℕ → ℕ → ℕ → ℕ
 s_word opcode funct3 rs1 rs2 bits =

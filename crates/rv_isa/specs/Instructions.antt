@@ -2,7 +2,7 @@
 -- "Pseudoinstructions").
 use Rattle.std.specs.Prelude.{ℕ, ℤ, pos}
 use Rattle.rv_isa.specs.declared.inst.Inst.{Inst}
-use Rattle.rv_isa.specs.declared.inst.Op.TheVariants.{Addi, Lui, Jalr, Ecall}
+use Rattle.rv_isa.specs.declared.op.Op.TheVariants.{Addi, Lui, Jalr, Ecall}
 
 -- `addi rd, rs1, imm`
 abbrev pub addi : ℕ → ℕ → ℤ → Inst

@@ -6,4 +6,5 @@ pub mod Registers
 pub mod Relocation
 pub mod Statements
 pub mod Symbol
+pub mod Table
 pub mod Text

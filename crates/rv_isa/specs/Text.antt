@@ -2,8 +2,9 @@
 use Rattle.std.specs.Prelude.{◌&&◌, ◌==◌, ℕ, ℤ, pos, negsuc, Bool, false, List, [], ◌∷◌, ◌++◌, codes, if◌then◌else◌, slice_index_or}
 use Rattle.std.specs.Fmt.{signed_decimal}
 use Rattle.rv_isa.specs.declared.inst.Inst.{Inst}
-use Rattle.rv_isa.specs.declared.inst.Op.{Op}
-use Rattle.rv_isa.specs.declared.inst.Op.TheVariants.{Addi, Lui, Jalr, Ecall}
+use Rattle.rv_isa.specs.declared.shape.Shape.{Shape}
+use Rattle.rv_isa.specs.declared.shape.Shape.TheVariants.{Registers, AddImmediate, Immediate, Load, Store, Branch, Upper, Jump, JumpRegister, Nothing}
+use Rattle.rv_isa.specs.Table.{mnemonic, shape}
 
 -- the registers by their names in the calling convention, x0 first
 abbrev pub register_names : List (List ℕ)
@@ -35,17 +36,25 @@ abbrev pub is_zero : ℤ → Bool
 is_zero (pos n) = n == 0
 is_zero (negsuc n) = false
 
--- an instruction, in its short form where it has one
-abbrev pub spelled_as : Op → Inst → List ℕ
-spelled_as Addi i =
+-- an instruction with these operands, in its short form where it has one; a branch and a jump have their distance
+abbrev pub spelled_by : Shape → List ℕ → Inst → List ℕ
+spelled_by Registers word i = spelled_line word (register i.rd ∷ register i.rs1 ∷ register i.rs2 ∷ [])
+spelled_by AddImmediate word i =
     if i.rs1 == 0 then spelled_line (codes "li") (register i.rd ∷ signed_decimal i.imm ∷ [])
     else if is_zero i.imm then spelled_line (codes "mv") (register i.rd ∷ register i.rs1 ∷ [])
-    else spelled_line (codes "addi") (register i.rd ∷ register i.rs1 ∷ signed_decimal i.imm ∷ [])
-spelled_as Lui i = spelled_line (codes "lui") (register i.rd ∷ signed_decimal i.imm ∷ [])
-spelled_as Jalr i =
+    else spelled_line word (register i.rd ∷ register i.rs1 ∷ signed_decimal i.imm ∷ [])
+spelled_by Immediate word i = spelled_line word (register i.rd ∷ register i.rs1 ∷ signed_decimal i.imm ∷ [])
+spelled_by Load word i = spelled_line word (register i.rd ∷ based i.imm i.rs1 ∷ [])
+spelled_by Store word i = spelled_line word (register i.rs2 ∷ based i.imm i.rs1 ∷ [])
+spelled_by Branch word i = spelled_line word (register i.rs1 ∷ register i.rs2 ∷ signed_decimal i.imm ∷ [])
+spelled_by Upper word i = spelled_line word (register i.rd ∷ signed_decimal i.imm ∷ [])
+spelled_by Jump word i =
+    if i.rd == 0 then spelled_line (codes "j") (signed_decimal i.imm ∷ [])
+    else spelled_line word (register i.rd ∷ signed_decimal i.imm ∷ [])
+spelled_by JumpRegister word i =
     if i.rd == 0 && i.rs1 == 1 && is_zero i.imm then spelled_line (codes "ret") []
-    else spelled_line (codes "jalr") (register i.rd ∷ based i.imm i.rs1 ∷ [])
-spelled_as Ecall i = spelled_line (codes "ecall") []
+    else spelled_line word (register i.rd ∷ based i.imm i.rs1 ∷ [])
+spelled_by Nothing word i = spelled_line word []
 
 abbrev pub instruction_line : Inst → List ℕ
-instruction_line i = spelled_as i.op i
+instruction_line i = spelled_by (shape i.op) (mnemonic i.op) i

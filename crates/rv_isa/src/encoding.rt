@@ -1,34 +1,24 @@
 //! The 32-bit words of instructions (sections "Base Instruction Formats" and "Immediate Encoding
 //! Variants", and chapter "RV32/64G Instruction Set Listings").
-ghost use Rattle.std.specs.Prelude.{◌≡◌, ◌≢◌, ◌+◌, ◌*◌, ◌/◌, ◌%◌, ◌^◌, ◌<◌, ℕ, pos, IfSome, IfNone};
-ghost use Rattle.rv_isa.specs.Encoding.{IsInst, IsSigned12, IsUnsigned20, HasWord, encoded, decoded, op_at, op_of, inst_in};
-ghost use Rattle.rv_isa.specs.Format.{i_word, u_word, low_bits, sign_extended, opcode_of, rd_of, funct3_of, rs1_of, funct7_of, i_bits, u_bits};
+ghost use Rattle.std.specs.Prelude.{◌≡◌, ◌≢◌, ◌+◌, ◌*◌, ◌/◌, ◌%◌, ◌^◌, ◌<◌, ℕ, ℤ, pos, IfSome, IfNone};
+ghost use Rattle.rv_isa.specs.Encoding.{IsInst, IsRow, FitsRow, IsSigned12, IsBranchDistance, IsJumpDistance, HasWord, encoded, decoded, word_in, inst_by};
+ghost use Rattle.rv_isa.specs.Format.{low_bits, sign_extended, s_bits, b_bits, j_bits};
 ghost use Rattle.rv_isa.specs.declared.inst.Inst.{Inst};
 
-use crate::inst::{Inst, Op};
-
-// Opcodes by their names in the base opcode map (chapter "RV32/64G Instruction Set Listings").
-const OP_IMM: u32 = 0x13;
-
-const LUI: u32 = 0x37;
-
-const JALR: u32 = 0x67;
-
-/// The whole word of `ecall`.
-const ECALL: u32 = 0x73;
+use crate::decoding::op_of_word;
+use crate::entries::row_of;
+use crate::inst::Inst;
+use crate::op::Op;
+use crate::row::Row;
 
 /// The word of an instruction, as the formats lay its fields out (sections "Base Instruction
 /// Formats" and "Immediate Encoding Variants").
+#[tactic(auto, using(crate::proofs::Table::is_row))]
 pub fn encode(i: Inst) -> u32
     requires { IsInst i }
     ensures { result ≡ encoded i }
 {
-    match i.op {
-        Op::Addi => i_type_word(OP_IMM, 0, i.rd, i.rs1, i.imm),
-        Op::Lui => u_type_word(LUI, i.rd, i.imm),
-        Op::Jalr => i_type_word(JALR, 0, i.rd, i.rs1, i.imm),
-        Op::Ecall => ECALL,
-    }
+    word_of_row(row_of(i.op), i)
 }
 
 /// The instruction that has this word, or `None` where no instruction of [`Op`] has it.
@@ -38,7 +28,7 @@ pub fn decode(word: u32) -> Option<Inst>
     ensures off_table { IfNone result ((i : Inst) → IsInst i → encoded i ≢ word) }
 {
     let op = op_of_word(word)?;
-    Some(inst_of_word(op, word))
+    Some(inst_of_row(row_of(op), op, word))
 }
 
 /// The word of an instruction is read back as that instruction.
@@ -56,86 +46,175 @@ pub fn words_fit()
     ensures { (i : Inst) → IsInst i → encoded i < 2 ^ 32 }
 {}
 
-/// A word of the I format.
-fn i_type_word(opcode: u32, funct3: u32, rd: u8, rs1: u8, imm: i64) -> u32
-    requires opcode { opcode < 0x80 }
-    requires funct3 { funct3 < 8 }
-    requires rd { rd < 32 }
-    requires rs1 { rs1 < 32 }
-    requires imm { IsSigned12 imm }
-    ensures { result ≡ i_word opcode funct3 rd rs1 (low_bits 12 imm) }
+/// The word that a row makes of the fields of an instruction.
+fn word_of_row(row: Row, i: Inst) -> u32
+    requires row { IsRow row }
+    requires rd { i.rd < 32 }
+    requires rs1 { i.rs1 < 32 }
+    requires rs2 { i.rs2 < 32 }
+    requires fits { FitsRow row i }
+    ensures { result ≡ word_in row i }
 {
-    let bits = if imm < 0 {
-        (imm + 0x1000) as u32
-    } else {
-        imm as u32
-    };
-    opcode + 0x80 * u32::from(rd) + 0x1000 * funct3 + 0x8000 * u32::from(rs1) + 0x10_0000 * bits
-}
-
-/// A word of the U format.
-fn u_type_word(opcode: u32, rd: u8, imm: i64) -> u32
-    requires opcode { opcode < 0x80 }
-    requires rd { rd < 32 }
-    requires imm { IsUnsigned20 imm }
-    ensures { result ≡ u_word opcode rd (low_bits 20 imm) }
-{
-    opcode + 0x80 * u32::from(rd) + 0x1000 * (imm as u32)
-}
-
-/// Which instruction a word has.
-fn op_of_word(word: u32) -> Option<Op>
-    ensures { result ≡ op_of word }
-{
-    op_of_fields(
-        word % 0x80,
-        word / 0x1000 % 8,
-        word / 0x200_0000 % 0x80,
-        word,
-    )
-}
-
-/// Which instruction has these fields in its words.
-fn op_of_fields(opcode: u32, funct3: u32, funct7: u32, word: u32) -> Option<Op>
-    ensures { result ≡ op_at opcode funct3 funct7 word }
-{
-    match (opcode, funct3, funct7) {
-        (OP_IMM, 0, _) => Some(Op::Addi),
-        (LUI, _, _) => Some(Op::Lui),
-        (JALR, 0, _) => Some(Op::Jalr),
-        _ if word == ECALL => Some(Op::Ecall),
-        _ => None,
+    let rd = 0x80 * u32::from(i.rd);
+    let rs1 = 0x8000 * u32::from(i.rs1);
+    let rs2 = 0x10_0000 * u32::from(i.rs2);
+    match row {
+        Row::RType(opcode, funct3, funct7) => {
+            opcode + rd + 0x1000 * funct3 + rs1 + rs2 + 0x200_0000 * funct7
+        }
+        Row::IType(opcode, funct3) => {
+            opcode + rd + 0x1000 * funct3 + rs1 + 0x10_0000 * low_bits_12(i.imm)
+        }
+        Row::Shift(opcode, funct3, funct6) => {
+            opcode + rd + 0x1000 * funct3 + rs1 + 0x10_0000 * (i.imm as u32) + 0x400_0000 * funct6
+        }
+        Row::ShiftW(opcode, funct3, funct7) => {
+            opcode + rd + 0x1000 * funct3 + rs1 + 0x10_0000 * (i.imm as u32) + 0x200_0000 * funct7
+        }
+        Row::SType(opcode, funct3) => {
+            opcode + 0x1000 * funct3 + rs1 + rs2 + spread_s(low_bits_12(i.imm))
+        }
+        Row::BType(opcode, funct3) => {
+            opcode + 0x1000 * funct3 + rs1 + rs2 + spread_b(low_bits_13(i.imm))
+        }
+        Row::UType(opcode) => opcode + rd + 0x1000 * (i.imm as u32),
+        Row::JType(opcode) => opcode + rd + spread_j(low_bits_21(i.imm)),
+        Row::Whole(word) => word,
     }
 }
 
-/// An instruction with the fields that a word gives it.
-fn inst_of_word(op: Op, word: u32) -> Inst
-    ensures { result ≡ inst_in op word }
+/// The bits of an immediate where the S format has them.
+fn spread_s(bits: u32) -> u32
+    requires { bits < 0x1000 }
+    ensures { result ≡ 0x80 * (bits % 0x20) + 0x2000000 * (bits / 0x20) }
+{
+    0x80 * (bits % 0x20) + 0x200_0000 * (bits / 0x20)
+}
+
+/// The bits of an immediate where the B format has them.
+fn spread_b(bits: u32) -> u32
+    requires { bits < 0x2000 }
+    ensures { result ≡ 0x80 * (bits / 0x800 % 2) + 0x100 * (bits / 2 % 0x10) + 0x2000000 * (bits / 0x20 % 0x40)
+        + 0x80000000 * (bits / 0x1000) }
+{
+    0x80 * (bits / 0x800 % 2)
+        + 0x100 * (bits / 2 % 0x10)
+        + 0x200_0000 * (bits / 0x20 % 0x40)
+        + 0x8000_0000 * (bits / 0x1000)
+}
+
+/// The bits of an immediate where the J format has them.
+fn spread_j(bits: u32) -> u32
+    requires { bits < 0x200000 }
+    ensures { result ≡ 0x1000 * (bits / 0x1000 % 0x100) + 0x100000 * (bits / 0x800 % 2) + 0x200000 * (bits / 2 % 0x400)
+        + 0x80000000 * (bits / 0x100000) }
+{
+    0x1000 * (bits / 0x1000 % 0x100)
+        + 0x10_0000 * (bits / 0x800 % 2)
+        + 0x20_0000 * (bits / 2 % 0x400)
+        + 0x8000_0000 * (bits / 0x10_0000)
+}
+
+/// The low twelve bits of a number that they hold.
+fn low_bits_12(imm: i64) -> u32
+    requires { IsSigned12 imm }
+    ensures value { result ≡ low_bits 12 imm }
+    ensures bound { result < 0x1000 }
+{
+    if imm < 0 {
+        (imm + 0x1000) as u32
+    } else {
+        imm as u32
+    }
+}
+
+/// The low 13 bits of a distance that they hold.
+fn low_bits_13(imm: i64) -> u32
+    requires { IsBranchDistance imm }
+    ensures value { result ≡ low_bits 13 imm }
+    ensures bound { result < 0x2000 }
+{
+    if imm < 0 {
+        (imm + 0x2000) as u32
+    } else {
+        imm as u32
+    }
+}
+
+/// The low 21 bits of a distance that they hold.
+fn low_bits_21(imm: i64) -> u32
+    requires { IsJumpDistance imm }
+    ensures value { result ≡ low_bits 21 imm }
+    ensures bound { result < 0x200000 }
+{
+    if imm < 0 {
+        (imm + 0x20_0000) as u32
+    } else {
+        imm as u32
+    }
+}
+
+/// An instruction with the fields that a word gives it, where this is its row.
+fn inst_of_row(row: Row, op: Op, word: u32) -> Inst
+    ensures { result ≡ inst_by row op word }
 {
     let rd = (word / 0x80 % 0x20) as u8;
     let rs1 = (word / 0x8000 % 0x20) as u8;
-    match op {
-        Op::Addi | Op::Jalr => Inst {
-            op,
-            rd,
-            rs1,
-            rs2: 0,
-            imm: sign_extend_12(word / 0x10_0000 % 0x1000),
-        },
-        Op::Lui => Inst {
-            op,
-            rd,
-            rs1: 0,
-            rs2: 0,
-            imm: i64::from(word / 0x1000 % 0x10_0000),
-        },
-        Op::Ecall => Inst {
-            op,
-            rd: 0,
-            rs1: 0,
-            rs2: 0,
-            imm: 0,
-        },
+    let rs2 = (word / 0x10_0000 % 0x20) as u8;
+    let (rd, rs1, rs2, imm) = match row {
+        Row::RType(..) => (rd, rs1, rs2, 0),
+        Row::IType(..) => (rd, rs1, 0, sign_extend_12(word / 0x10_0000 % 0x1000)),
+        Row::Shift(..) => (rd, rs1, 0, i64::from(word / 0x10_0000 % 0x40)),
+        Row::ShiftW(..) => (rd, rs1, 0, i64::from(rs2)),
+        Row::SType(..) => (0, rs1, rs2, store_offset(word)),
+        Row::BType(..) => (0, rs1, rs2, branch_distance(word)),
+        Row::UType(..) => (rd, 0, 0, i64::from(word / 0x1000 % 0x10_0000)),
+        Row::JType(..) => (rd, 0, 0, jump_distance(word)),
+        Row::Whole(..) => (0, 0, 0, 0),
+    };
+    Inst {
+        op,
+        rd,
+        rs1,
+        rs2,
+        imm,
+    }
+}
+
+/// The immediate of a word of the S format.
+fn store_offset(word: u32) -> i64
+    ensures { result ≡ sign_extended 12 (s_bits word) }
+{
+    sign_extend_12(word / 0x80 % 0x20 + 0x20 * (word / 0x200_0000 % 0x80))
+}
+
+/// The immediate of a word of the B format.
+fn branch_distance(word: u32) -> i64
+    ensures { result ≡ sign_extended 13 (b_bits word) }
+{
+    let bits = 2 * (word / 0x100 % 0x10)
+        + 0x20 * (word / 0x200_0000 % 0x40)
+        + 0x800 * (word / 0x80 % 2)
+        + 0x1000 * (word / 0x8000_0000 % 2);
+    if bits < 0x1000 {
+        i64::from(bits)
+    } else {
+        i64::from(bits) - 0x2000
+    }
+}
+
+/// The immediate of a word of the J format.
+fn jump_distance(word: u32) -> i64
+    ensures { result ≡ sign_extended 21 (j_bits word) }
+{
+    let bits = 2 * (word / 0x20_0000 % 0x400)
+        + 0x800 * (word / 0x10_0000 % 2)
+        + 0x1000 * (word / 0x1000 % 0x100)
+        + 0x10_0000 * (word / 0x8000_0000 % 2);
+    if bits < 0x10_0000 {
+        i64::from(bits)
+    } else {
+        i64::from(bits) - 0x20_0000
     }
 }
 

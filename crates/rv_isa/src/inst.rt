@@ -2,21 +2,9 @@
 ghost use Rattle.std.specs.Prelude.{◌≡◌};
 ghost use Rattle.rv_isa.specs.Instructions.{addi, ecall, jalr, li, lui, mv, ret};
 
+use crate::op::Op;
 use crate::register::{RA, ZERO};
 use crate::symbol::SymName;
-
-/// The instructions, one variant for each (chapter "RV32/64G Instruction Set Listings").
-#[derive(Clone, Copy, Debug, PartialEq, Eq)]
-pub enum Op {
-    /// Adds a 12-bit immediate to a register.
-    Addi,
-    /// Loads the upper 20 bits of a 32-bit number, sign-extended.
-    Lui,
-    /// Jumps to a register plus a 12-bit immediate, and links.
-    Jalr,
-    /// Calls the execution environment.
-    Ecall,
-}
 
 /// An instruction with its fields. Fields that its format lacks are 0.
 #[derive(Clone, Copy, Debug, PartialEq, Eq)]
