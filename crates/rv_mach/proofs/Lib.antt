@@ -10,3 +10,5 @@ pub mod Straight
 pub mod PlainCode
 pub mod Places
 pub mod Puts
+pub mod HighLemmas
+pub mod CodeStays

@@ -3,14 +3,19 @@ use Rattle.std.proofs.Common.{◌≡◌, ◌∙◌, ap, ℕ, zero, suc, ◌%◌,
 use Rattle.rv_mach.specs.declared.stop.Stop.TheVariants.{Running}
 use Rattle.rv_mach.specs.State.{State, fresh, register}
 use Rattle.rv_isa.specs.Registers.{a0}
-use Rattle.rv_mach.specs.Step.{act, act_by, called, puts, settled, step}
+use Rattle.rv_isa.specs.Format.{low_bits}
+use Rattle.rv_mach.specs.Actions.{action_of}
+use Rattle.rv_mach.specs.Step.{act, called, performed, puts, settled, step}
 use Rattle.rv_mach.specs.Run.{IsAtPut, run_of}
 use Rattle.rv_mach.proofs.Runs.{run_of-suc_first}
 use Rattle.rv_mach.proofs.Steps.{step-at}
 
 -- what such a call does
 put-acts : (input : List ℕ) (m : State) (at : IsAtPut m) → act input at.next m ≡ puts (register a0 m % 0x100) m
-put-acts input m at = ap (λ op. act_by op input at.next m) at.is_call ∙ ap (λ number. called number input m) at.number
+put-acts input m at =
+    let next = at.next in
+    ap (λ op. performed (action_of op (register next.rs1 m) (register next.rs2 m) (low_bits 64 next.imm) m.pc) next.rd input m) at.is_call
+    ∙ ap (λ number. called number input m) at.number
 
 pub put-output : (input : List ℕ) (m : State) → m.stop ≡ Running → IsAtPut m → (step input (fresh m)).output ≡ register a0 m % 0x100 ∷ []
 put-output input m going at =

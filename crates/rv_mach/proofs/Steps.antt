@@ -1,5 +1,5 @@
 -- A step of a machine that goes on, by the word at its address.
-use Rattle.std.proofs.Common.{◌≡◌, ◌∙◌, ap, ℕ, ◌+◌, ◌-◌, ◌%◌, ◌<◌, ◌≤◌, List, length, Bool, false, nat_lt, Ok, Err, Result, if◌then◌else◌, arith, ◌^◌}
+use Rattle.std.proofs.Common.{◌≡◌, ◌∙◌, ap, ℕ, ◌+◌, ◌-◌, ◌%◌, ◌≤◌, List, length, Bool, false, nat_lt, Ok, Err, Result, if◌then◌else◌, arith}
 use Rattle.std.proofs.lemmas.Bool.Decides.{nat_tests}
 use Rattle.rv_isa.specs.declared.inst.Inst.{Inst}
 use Rattle.rv_mach.specs.declared.stop.Stop.{Stop}
@@ -7,7 +7,7 @@ use Rattle.rv_mach.specs.declared.stop.Stop.TheVariants.{Running, StackOut}
 use Rattle.rv_mach.specs.Layout.{fetched, word_at, image_start, stack_start}
 use Rattle.rv_mach.specs.State.{State, Run, register}
 use Rattle.rv_isa.specs.Registers.{sp}
-use Rattle.rv_mach.specs.Step.{act, executed, instruction, instruction_fetched, settled, step, step_by, next_pc}
+use Rattle.rv_mach.specs.Step.{act, executed, instruction, instruction_fetched, settled, step, step_by}
 
 pub fetched-at : (image : List ℕ) (address : ℕ) → address % 4 ≡ 0 → image_start ≤ address
     → address + 4 ≤ image_start + length image → fetched image address ≡ Ok (word_at image (address - image_start))

@@ -45,13 +45,13 @@ run-through input (i ∷ []) (suc n) m within has going fits straight =
     ∙ ap (λ k. after_code input (take (suc k) (i ∷ [])) (fresh m)) (sym none)
 run-through input (i ∷ next ∷ code) (suc n) m within has going fits straight =
     let r : Run = settled (act input i m) [] in
-    let on : GoesOn m r.machine = fallen (act input i m) m [] (act_kept i.op input i m) straight.1 in
+    let on : GoesOn m r.machine = fallen (act input i m) m [] (act_kept input i m) straight.1 in
     let pc : r.machine.pc ≡ m.pc + 4 = on.pc ∙ omega arith in
     let later : HasCode r.machine.image r.machine.pc (next ∷ code) =
-    subst (λ image. HasCode image r.machine.pc (next ∷ code)) (sym on.image) (subst (λ a. HasCode m.image a (next ∷ code)) (sym pc) has.1) in
+    subst (λ a. HasCode r.machine.image a (next ∷ code)) (sym pc) straight.2 in
     run-first input n m r (step-code input (fresh m) i going straight.0 has.0)
     ∙ ap (prefixed r.output)
-    (run-through input (next ∷ code) n r.machine (omega arith) later (on.stop ∙ going) (omega arith) straight.2)
+    (run-through input (next ∷ code) n r.machine (omega arith) later (on.stop ∙ going) (omega arith) straight.3)
     ∙ sym (after_code-prefixed input r.output (take n (next ∷ code)) (fresh r.machine))
     ∙ ap (after_code input (take n (next ∷ code))) (sym (prefixed-fresh r))
 

@@ -1,6 +1,9 @@
 pub mod Layout
 pub mod State
 pub mod Registers
+pub mod Values
+pub mod Actions
+pub mod Memory
 pub mod Step
 pub mod Effects
 pub mod Run

@@ -3,7 +3,7 @@ use Rattle.std.specs.Prelude.{◌≡◌, ◌<◌, ◌+◌, ◌++◌, ℕ, suc, z
 use Rattle.std.specs.declared.option.Option.{Option}
 use Rattle.std.specs.Io.KnownBytes.{Appends}
 use Rattle.rv_isa.specs.declared.inst.Inst.{Inst}
-use Rattle.rv_isa.specs.declared.inst.Op.TheVariants.{Ecall}
+use Rattle.rv_isa.specs.declared.op.Op.TheVariants.{Ecall}
 use Rattle.rv_mach.specs.declared.stop.Stop.{Stop}
 use Rattle.rv_mach.specs.declared.stop.Stop.TheVariants.{Running}
 use Rattle.rv_mach.specs.State.{State, Run, fresh, register, start}

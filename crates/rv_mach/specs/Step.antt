@@ -1,17 +1,22 @@
 -- What a step does (chapter "RV64I Base Integer Instruction Set", and the calls of the environment).
-use Rattle.std.specs.Prelude.{◌+◌, ◌-◌, ◌*◌, ◌%◌, ◌^◌, ◌==◌, ℕ, ℤ, nat_lt, List, [], ◌∷◌, ◌++◌, Option, Some, None, Ok, Err, if◌then◌else◌, slice_get}
+use Rattle.std.specs.Prelude.{◌+◌, ◌-◌, ◌%◌, ◌^◌, ◌==◌, ℕ, ℤ, Bool, nat_lt, List, [], ◌∷◌, ◌++◌, Option, Some, None, Ok, Err, if◌then◌else◌, slice_get}
 use Rattle.std.specs.declared.result.Result.{Result}
 use Rattle.rv_isa.specs.declared.inst.Inst.{Inst}
-use Rattle.rv_isa.specs.declared.inst.Op.{Op}
-use Rattle.rv_isa.specs.declared.inst.Op.TheVariants.{Addi, Lui, Jalr, Ecall}
 use Rattle.rv_isa.specs.Encoding.{decoded}
-use Rattle.rv_isa.specs.Format.{low_bits, sign_extended}
+use Rattle.rv_isa.specs.Format.{low_bits}
 use Rattle.rv_mach.specs.declared.stop.Stop.{Stop}
 use Rattle.rv_mach.specs.declared.stop.Stop.TheVariants.{Exited, Trapped, StackOut, Running}
 use Rattle.rv_mach.specs.declared.stop.TrapKind.{TrapKind}
 use Rattle.rv_mach.specs.declared.stop.TrapKind.TheVariants as trap
+use Rattle.rv_mach.specs.declared.action.Action.{Action}
+use Rattle.rv_mach.specs.declared.action.Action.TheVariants.{Set, Load, Store, Branch, Jump, Pass, Call, Break}
+use Rattle.rv_mach.specs.declared.place.Place.{Place}
+use Rattle.rv_mach.specs.declared.size.Size.{Size}
+use Rattle.rv_mach.specs.Actions.{action_of}
 use Rattle.rv_mach.specs.Layout.{stack_start, fetched}
+use Rattle.rv_mach.specs.Memory.{placed, read_from, written_to, extension}
 use Rattle.rv_mach.specs.State.{State, Run, wrapped, register, with_register}
+use Rattle.rv_mach.specs.Values.{upper}
 use Rattle.rv_isa.specs.Registers.{sp, a0, a7}
 
 -- what an instruction does with a machine: it falls through to the next one, jumps, puts a byte and
@@ -26,9 +31,9 @@ pub data Effect : Type 0 where
 abbrev pub sum_of : Inst → State → ℕ
 sum_of i m = wrapped (register i.rs1 m + low_bits 64 i.imm)
 
--- the 20 bits of an immediate above twelve that are 0, as a number of 32 bits that is extended by its sign
+-- what `lui` loads
 abbrev pub upper_immediate : ℤ → ℕ
-upper_immediate imm = low_bits 64 (sign_extended 32 (0x1000 * low_bits 20 imm))
+upper_immediate imm = upper (low_bits 64 imm)
 
 -- the address after an instruction
 abbrev pub next_pc : State → ℕ
@@ -57,15 +62,34 @@ called number input m =
     else if number == exit then stops (Exited (register a0 m % 2 ^ 32)) m
     else stops (Trapped trap.Ecall) m
 
-abbrev pub act_by : Op → List ℕ → Inst → State → Effect
-act_by Addi input i m = falls (with_register i.rd (sum_of i m) m)
-act_by Lui input i m = falls (with_register i.rd (upper_immediate i.imm) m)
-act_by Jalr input i m = jumps (sum_of i m - sum_of i m % 2) (with_register i.rd (next_pc m) m)
-act_by Ecall input i m = called (register a7 m) input m
+-- a load from a place, or a trap
+abbrev pub load_from : Result Place TrapKind → Size → Bool → ℕ → State → Effect
+load_from (Ok place) size signed rd m = falls (with_register rd (extension size signed (read_from place size m)) m)
+load_from (Err kind) size signed rd m = stops (Trapped kind) m
+
+-- a store at a place, or a trap
+abbrev pub store_at : Result Place TrapKind → Size → ℕ → State → Effect
+store_at (Ok place) size value m = falls (written_to place size value m)
+store_at (Err kind) size value m = stops (Trapped kind) m
+
+-- what an action does, on this input; rd is the destination
+abbrev pub performed : Action → ℕ → List ℕ → State → Effect
+performed (Set value) rd input m = falls (with_register rd value m)
+performed (Load size signed address) rd input m = load_from (placed size address m) size signed rd m
+performed (Store size value address) rd input m = store_at (placed size address m) size value m
+performed (Branch taken target) rd input m = if taken then jumps target m else falls m
+performed (Jump target) rd input m = jumps target (with_register rd (next_pc m) m)
+performed Pass rd input m = falls m
+performed Call rd input m = called (register a7 m) input m
+performed Break rd input m = stops (Trapped trap.Break) m
+
+-- the action of an instruction in a machine
+abbrev pub action : Inst → State → Action
+action i m = action_of i.op (register i.rs1 m) (register i.rs2 m) (low_bits 64 i.imm) m.pc
 
 -- what an instruction does, on this input
 abbrev pub act : List ℕ → Inst → State → Effect
-act input i m = act_by i.op input i m
+act input i m = performed (action i m) i.rd input m
 
 abbrev pub instruction_of_word : Option Inst → Result Inst Stop
 instruction_of_word (Some i) = Ok i

@@ -9,7 +9,8 @@ ghost use Rattle.rv_mach.specs.Layout.{image_start};
 ghost use Rattle.rv_mach.specs.State.{State, fresh, register, start, with_register};
 ghost use Rattle.rv_mach.specs.Registers.{IsRegisterFile};
 ghost use Rattle.rv_mach.specs.Run.{run_of, IsJoined};
-ghost use Rattle.rv_mach.specs.Code.{HasCode, IsStraight, IsPlace, after_code, places};
+ghost use Rattle.rv_mach.specs.Code.{HasCode, IsStraight, IsPlace, StoresNothing, Spares, after_code, places};
+ghost use Rattle.rv_mach.specs.Step.{act, action, settled};
 
 /// A run of a steps and then one of b steps, on one input, are a run of a + b steps.
 pub fn runs_join()
@@ -45,11 +46,13 @@ pub fn registers_are_set()
         → register s (with_register r value m) ≡ register s m }
 {}
 
-/// No step changes the image, so code that it has stays.
+/// No instruction but a store changes the image, and code stays where a store spares it.
 pub fn images_stay()
-    ensures image { (input : List ℕ) (n : ℕ) (m : State) → (run_of input n m).machine.image ≡ m.image }
-    ensures code { (input : List ℕ) (n : ℕ) (m : State) (address : ℕ) (code : List Inst)
-        → HasCode m.image address code → HasCode (run_of input n m).machine.image address code }
+    ensures image { (input output : List ℕ) (i : Inst) (m : State) → StoresNothing (action i m)
+        → (settled (act input i m) output).machine.image ≡ m.image }
+    ensures code { (input output : List ℕ) (i : Inst) (m : State) (address : ℕ) (code : List Inst)
+        → HasCode m.image address code → Spares address (4 * length code) (action i m)
+        → HasCode (settled (act input i m) output).machine.image address code }
 {}
 
 /// An image that has the words of code, the low byte of each first, has the code.

@@ -4,11 +4,15 @@
 //! Sections are of the RISC-V Instruction Set Manual, Volume I: Unprivileged Architecture.
 #![tactic(auto)]
 
+mod action;
 mod effect;
 mod laws;
 mod machine;
 mod memory;
+mod place;
+mod size;
 mod stop;
+mod values;
 
 pub use laws::{
     images_stay, places_are_few, registers_are_set, registers_stay_whole, runs_join,

@@ -1,20 +1,29 @@
 //! The machine: loading an image, and its runs.
-ghost use Rattle.std.specs.Prelude.{◌≡◌, ◌≢◌, ◌<◌, ◌≤◌, [], IfOk, OnOk, OnErr, IfErr};
+ghost use Rattle.std.specs.Prelude.{◌≡◌, ◌≢◌, ◌*◌, ◌^◌, ◌<◌, ◌≤◌, [], IfOk, OnOk, OnErr, IfErr};
 ghost use Rattle.std.specs.Io.KnownBytes.{Appends};
 ghost use Rattle.cg_io.specs.Faults.{Rose};
-ghost use Rattle.rv_isa.specs.Encoding.{IsInst, IsUnsigned20};
+ghost use Rattle.rv_isa.specs.Encoding.{IsInst};
+ghost use Rattle.rv_isa.specs.declared.op.Op.TheVariants.{Ecall};
+ghost use Rattle.rv_mach.specs.Actions.{IsCall};
+ghost use Rattle.rv_mach.specs.Memory.{IsWithin, bytes_of, placed, read_from, written_to};
 ghost use Rattle.rv_mach.specs.State.{start, zeros, fresh, register, registers_with};
 ghost use Rattle.rv_isa.specs.Registers.{a7};
-ghost use Rattle.rv_mach.specs.Step.{put, instruction, act, sum_of, called, step, settled, executed, upper_immediate};
+ghost use Rattle.rv_mach.specs.Step.{put, instruction, act, performed, load_from, store_at, called, step, settled, executed};
 ghost use Rattle.rv_mach.specs.Run.{run_of, IsAtPut, IsCutOff};
 ghost use Rattle.rv_mach.specs.Effects.{effect_of, IsPut};
 
+use crate::action::{Action, action_of};
 use crate::effect::Effect;
-use crate::memory::{IMAGE_START, STACK_BYTES, STACK_END, STACK_START, fetch};
+use crate::memory::{
+    IMAGE_START, STACK_BYTES, STACK_END, STACK_START, extension, fetch, index_in, is_aligned,
+    number_at, write_number,
+};
+use crate::place::Place;
+use crate::size::Size;
 use crate::stop::{Stop, TrapKind};
 use cg_io::{NoMemory, Sink, WriteFault, write_all};
 use obj_link::Image;
-use rv_isa::{A0, A7, Inst, Op, SP, decode};
+use rv_isa::{A0, A7, Inst, SP, decode};
 use std::alloc::Global;
 use std::marker::Model;
 
@@ -178,33 +187,106 @@ impl Machine {
         requires { IsInst i }
         ensures value { effect_of result self.new ≡ act input.now i self.old }
         ensures unchanged { IsPut result → self.new ≡ self.old }
-        ensures put { IsPut result → (i.op ≡ Op.Ecall) × (register a7 self.old ≡ put) }
+        ensures put { IsPut result → (i.op ≡ Ecall) × (register a7 self.old ≡ put) }
     {
-        match i.op {
-            Op::Addi => {
-                let sum = self.sum(i);
-                set_register(&mut self.registers, i.rd, sum);
+        let a = self.registers[usize::from(i.rs1)];
+        let b = self.registers[usize::from(i.rs2)];
+        self.perform(action_of(i, a, b, self.pc), i.rd, input)
+    }
+
+    /// Performs an action, up to where the machine goes on.
+    fn perform(&mut self, action: Action, rd: u8, input: &[u8]) -> Effect
+        requires { rd < 32 }
+        ensures value { effect_of result self.new ≡ performed action rd input.now self.old }
+        ensures unchanged { IsPut result → self.new ≡ self.old }
+        ensures put { IsPut result → IsCall action × (register a7 self.old ≡ put) }
+    {
+        match action {
+            Action::Set(value) => {
+                set_register(&mut self.registers, rd, value);
                 Effect::Next
             }
-            Op::Lui => {
-                set_register(&mut self.registers, i.rd, upper_immediate(i.imm));
-                Effect::Next
+            Action::Load(size, signed, address) => self.load_register(size, signed, address, rd),
+            Action::Store(size, value, address) => self.store(size, value, address),
+            Action::Branch(true, target) => Effect::Jump(target),
+            Action::Branch(false, _) | Action::Pass => Effect::Next,
+            Action::Jump(target) => {
+                set_register(&mut self.registers, rd, self.pc.wrapping_add(4));
+                Effect::Jump(target)
             }
-            Op::Jalr => {
-                let target = self.sum(i);
-                set_register(&mut self.registers, i.rd, self.pc.wrapping_add(4));
-                Effect::Jump(target - target % 2)
-            }
-            Op::Ecall => self.call(input),
+            Action::Call => self.call(input),
+            Action::Break => Effect::Stop(Stop::Trapped(TrapKind::Break)),
         }
     }
 
-    /// The sum of a register and an immediate.
-    fn sum(&self, i: Inst) -> u64
-        requires { IsInst i }
-        ensures { result ≡ sum_of i self.now }
+    /// Where as many bytes as a size has from an address on lie.
+    fn place(&self, size: Size, address: u64) -> Result<Place, TrapKind>
+        ensures value { result ≡ placed size address self.now }
+        ensures within { IfOk result (λ place. IsWithin place size self.now) }
     {
-        self.registers[usize::from(i.rs1)].wrapping_add_signed(i.imm)
+        if !is_aligned(size, address) {
+            return Err(TrapKind::Misaligned);
+        }
+        if let Some(index) = index_in(IMAGE_START, self.image.len(), size, address) {
+            return Ok(Place::Image(index));
+        }
+        match index_in(STACK_START, self.stack.len(), size, address) {
+            Some(index) => Ok(Place::Stack(index)),
+            None => Err(TrapKind::Unmapped),
+        }
+    }
+
+    /// The number at a place.
+    fn number(&self, place: Place, size: Size) -> u64
+        requires { IsWithin place size self.now }
+        ensures value { result ≡ read_from place size self.now }
+        ensures bound { result < 2 ^ (8 * bytes_of size) }
+    {
+        match place {
+            Place::Image(index) => number_at(size, self.image.as_slice(), index),
+            Place::Stack(index) => number_at(size, self.stack.as_slice(), index),
+        }
+    }
+
+    /// Loads a number into a register.
+    fn load_register(&mut self, size: Size, signed: bool, address: u64, rd: u8) -> Effect
+        requires { rd < 32 }
+        ensures value { effect_of result self.new ≡ load_from (placed size address self.old) size signed rd self.old }
+        ensures put { ¬ (IsPut result) }
+    {
+        match self.place(size, address) {
+            Ok(place) => {
+                let number = extension(size, signed, self.number(place, size));
+                set_register(&mut self.registers, rd, number);
+                Effect::Next
+            }
+            Err(kind) => Effect::Stop(Stop::Trapped(kind)),
+        }
+    }
+
+    /// Stores a number.
+    fn store(&mut self, size: Size, value: u64, address: u64) -> Effect
+        ensures value { effect_of result self.new ≡ store_at (placed size address self.old) size value self.old }
+        ensures put { ¬ (IsPut result) }
+    {
+        match self.place(size, address) {
+            Ok(place) => {
+                self.write(place, size, value);
+                Effect::Next
+            }
+            Err(kind) => Effect::Stop(Stop::Trapped(kind)),
+        }
+    }
+
+    /// Writes a number to a place.
+    fn write(&mut self, place: Place, size: Size, value: u64)
+        requires { IsWithin place size self.old }
+        ensures { self.new ≡ written_to place size value self.old }
+    {
+        match place {
+            Place::Image(index) => write_number(size, self.image.as_mut_slice(), index, value),
+            Place::Stack(index) => write_number(size, self.stack.as_mut_slice(), index, value),
+        }
     }
 
     /// A call of the environment.
@@ -239,19 +321,6 @@ fn set_register(registers: &mut [u64; 32], rd: u8, value: u64)
 {
     if rd != 0 {
         registers[usize::from(rd)] = value;
-    }
-}
-
-/// The number that `lui` loads: 20 bits above twelve that are 0, extended by their sign.
-fn upper_immediate(imm: i64) -> u64
-    requires { IsUnsigned20 imm }
-    ensures { result ≡ upper_immediate imm }
-{
-    let low = 0x1000 * imm as u64;
-    if low < 0x8000_0000 {
-        low
-    } else {
-        low + 0xffff_ffff_0000_0000
     }
 }
 

@@ -18,12 +18,12 @@ pub enum Stop {
 pub enum TrapKind {
     /// A word that is no instruction of the machine.
     Illegal,
-    /// A fetch from an address that isn't a multiple of 4.
+    /// An address that is no multiple of the size of what is fetched, loaded or stored there.
     Misaligned,
-    /// A fetch from outside the image.
+    /// A fetch from outside the image, or a load or store outside the image and the stack.
     Unmapped,
     /// An `ecall` with a number that the environment doesn't know.
     Ecall,
-    /// An `ebreak`. No instruction traps so yet: it comes with `ebreak`.
+    /// An `ebreak`.
     Break,
 }
