@@ -16,7 +16,7 @@ use Rattle.rv_mach.specs.Step.{instruction_fetched, sum_of, upper_immediate}
 use Rattle.rv_mach.proofs.CodeParts.{has-prefix, has-back}
 use Rattle.rv_mach.proofs.Lookups.{register-same, register-other}
 use Rattle.rv_mach.proofs.OnTheWay.{run-then}
-use Rattle.rv_mach.proofs.PlainCode.{AllCompute, AllLeave, all-compute, all-leave, plain-returns, plain-straight}
+use Rattle.rv_mach.proofs.PlainCode.{AllCompute, AllLeave, addi-computes, all-compute, all-leave, lui-computes, plain-returns, plain-straight}
 use Rattle.rv_mach.proofs.Registers.{after_code-file, start-file}
 use Rattle.rv_mach.proofs.Straight.{StandsAt, run-block}
 use Rattle.obj_link.specs.Words.{high_part, low_part}
@@ -33,7 +33,7 @@ abbrev after_call : List Inst
 after_call = addi 17 0 (pos 93) ∷ ecall ∷ []
 
 before_computes : (address : ℕ) → AllCompute (before_call address)
-before_computes address = all-compute (before_call address) (tt, (tt, (tt, tt)))
+before_computes address = all-compute (before_call address) (addi-computes, (addi-computes, (lui-computes, tt)))
 
 before_leaves : (address : ℕ) → AllLeave sp (before_call address)
 before_leaves address = all-leave sp (before_call address) ((λ e. cc), ((λ e. cc), ((λ e. cc), tt)))
@@ -57,7 +57,8 @@ start_calls image input address aligned small code =
     record { image_is = refl; pc_is = refl; going = refl; room = omega arith; file = start-file image } in
     let ran : run_of input 4 begun ≡ after_code input calling (fresh begun) =
     run-block image input 0x10000 calling begun at (has-prefix image 0x10000 calling after_call code) (omega arith)
-    (plain-straight input (before_call address) (call_low 1 address) begun (before_computes address) (before_leaves address) at.room) in
+    (plain-straight input (before_call address) (call_low 1 address) begun (before_computes address) (before_leaves address) at.room
+    (has-prefix image 0x10000 calling after_call code) (omega arith)) in
     record {
       m = (after_code input calling (fresh begun)).machine;
       ran = ran;
@@ -79,7 +80,7 @@ constant_loads true value is signed =
     let code : List Inst = addi 10 0 (pos 0) ∷ [] in
     record {
       short = omega arith;
-      computes = all-compute code (tt, tt);
+      computes = all-compute code (addi-computes, tt);
       stack = all-leave sp code ((λ e. cc), tt);
       link = all-leave ra code ((λ e. cc), tt);
       result = λ input m file.
@@ -91,7 +92,7 @@ constant_loads false value is signed =
     let code : List Inst = addi 5 0 value ∷ mv 10 5 ∷ [] in
     record {
       short = omega arith;
-      computes = all-compute code (tt, (tt, tt));
+      computes = all-compute code (addi-computes, (addi-computes, tt));
       stack = all-leave sp code ((λ e. cc), ((λ e. cc), tt));
       link = all-leave ra code ((λ e. cc), ((λ e. cc), tt));
       result = λ input m file.
