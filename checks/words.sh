@@ -1,6 +1,6 @@
 #!/bin/sh
-# The words that the tests of the encoding name beside their assembly are those that GNU as for RISC-V gives, or
-# LLVM's assembler where that is what is here; and it takes the assembly of the examples. Where neither is
+# The words that the tests of the encoding and of operations name beside their assembly are those that GNU as for RISC-V
+# gives, or LLVM's assembler where that is what is here; and it takes the assembly of the examples. Where neither is
 # installed, nothing is checked.
 cd "$(dirname "$0")/.." || exit 1
 made=$(mktemp -d) || exit 1
@@ -15,14 +15,16 @@ if as=$(command -v riscv64-linux-gnu-as || command -v riscv64-unknown-elf-as); t
   }
 elif command -v llvm-mc >/dev/null && llvm-mc --version | grep -q riscv64; then
   assemble() {
-    llvm-mc --triple=riscv64 --mattr=+m --show-encoding "$1" > "$made/encoding" \
+    sed -E 's/\.\+([0-9]+)$/\1/; s/\.(-[0-9]+)$/\1/' "$1" > "$made/distances.s"  # of a branch or a jump
+    llvm-mc --triple=riscv64 --mattr=+m --show-encoding "$made/distances.s" > "$made/encoding" \
       && sed -nE 's/.*encoding: \[0x(..),0x(..),0x(..),0x(..)\].*/\4\3\2\1/p' "$made/encoding" > "$2"
   }
 else
   echo "words: no assembler for RISC-V is here, so nothing is checked"; exit 0
 fi
 
-sed -nE 's/^ *\(0x([0-9a-f_]+), "([^"]+)", .*/\1 \2/p' crates/machine_tests/src/encoding.rt > "$made/table"
+cat crates/machine_tests/src/encoding.rt crates/machine_tests/src/operations.rt | tr '\n' ' ' \
+  | grep -oE '\( *0x[0-9a-f_]+, *"[^"]+"' | sed -E 's/^\( *0x([0-9a-f_]+), *"([^"]+)"/\1 \2/' > "$made/table"
 sed -E 's/^[^ ]+ //' "$made/table" > "$made/code.s"
 sed -E 's/ .*//; s/_//g' "$made/table" > "$made/expected"
 [ -s "$made/table" ] || { echo "words: the tests name none"; exit 1; }

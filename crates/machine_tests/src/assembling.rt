@@ -13,16 +13,16 @@ const ASSEMBLED: &[(&[u8], &[Code], &[Symbol])] = &[
     (
         b"\t.text\n\t.globl\ta\n\t.p2align\t2\na:\n\tmv\tt0, a0\n\tmv\tt1, a1\n\tmv\ta0, t0\n\tret\n",
         &[
-            (Op::Addi, 5, 10, 0),
-            (Op::Addi, 6, 11, 0),
-            (Op::Addi, 10, 5, 0),
+            (Op::Addi, 5, 10, 0, 0),
+            (Op::Addi, 6, 11, 0, 0),
+            (Op::Addi, 10, 5, 0, 0),
             RET,
         ],
         &[(b"a", true, 0)],
     ),
     (
         b"\t.text\n\t.p2align\t2\n.LBB0x:\n\tli\ta0, -2048\n\tret\n\"a\\\"\\\\ \\303\\251\":\n\tret\n",
-        &[(Op::Addi, 10, 0, -2048), RET, RET],
+        &[(Op::Addi, 10, 0, 0, -2048), RET, RET],
         &[(b".LBB0x", false, 0), (b"a\"\\ \xC3\xA9", false, 8)],
     ),
 ];

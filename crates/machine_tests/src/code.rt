@@ -1,11 +1,11 @@
 //! Instructions as rows of tables have them.
 use rv_isa::{Inst, Op};
 
-/// An instruction without a second source register: its operation, rd, rs1 and its immediate.
-pub(crate) type Code = (Op, u8, u8, i64);
+/// An instruction: its operation, rd, rs1, rs2 and its immediate.
+pub(crate) type Code = (Op, u8, u8, u8, i64);
 
 /// `ret`.
-pub(crate) const RET: Code = (Op::Jalr, 0, 1, 0);
+pub(crate) const RET: Code = (Op::Jalr, 0, 1, 0, 0);
 
 /// Whether an instruction is this one.
 pub(crate) fn is_code(inst: Inst, code: Code) -> bool {
@@ -13,8 +13,8 @@ pub(crate) fn is_code(inst: Inst, code: Code) -> bool {
         op: code.0,
         rd: code.1,
         rs1: code.2,
-        rs2: 0,
-        imm: code.3,
+        rs2: code.3,
+        imm: code.4,
     };
     inst == wanted
 }

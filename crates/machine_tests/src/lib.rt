@@ -11,4 +11,8 @@ mod encoding;
 #[cfg(test)]
 mod linking;
 #[cfg(test)]
+mod memory;
+#[cfg(test)]
+mod operations;
+#[cfg(test)]
 mod running;

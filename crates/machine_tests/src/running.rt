@@ -1,4 +1,5 @@
 //! Programs that are run on the machine.
+use crate::operations::end_of;
 use cg_io::{MemSink, WriteFault};
 use obj_link::{Addresses, Bytes, Image};
 use rv_mach::{Machine, Stop, TrapKind};
@@ -67,8 +68,8 @@ const ENDED: &[(&[u32], &[Run])] = &[
     (
         &[EBREAK, 0, 0],
         &[
-            (4, Stop::Trapped(TrapKind::Illegal)),
-            (1, Stop::Trapped(TrapKind::Illegal)),
+            (4, Stop::Trapped(TrapKind::Break)),
+            (1, Stop::Trapped(TrapKind::Break)),
         ],
     ),
     (
@@ -134,7 +135,7 @@ fn image_of(alloc: Global, words: &[u32]) -> Result<Image, AllocError> {
 }
 
 /// The machine with an image of these words.
-fn machine_of(alloc: Global, words: &[u32]) -> Result<Machine, AllocError> {
+pub(crate) fn machine_of(alloc: Global, words: &[u32]) -> Result<Machine, AllocError> {
     let image = image_of(alloc, words)?;
     let machine = Machine::load(alloc, &image);
     drop(image);
@@ -173,6 +174,86 @@ fn wrong_program(alloc: Global) -> usize {
 #[test]
 fn each_end_comes_from_its_words(rt: HostRuntime) {
     assert_eq!(rt; wrong_program(rt.alloc()), 0);
+}
+
+/// Programs whose last instruction loads, stores or jumps, and how each ends in four steps.
+const REACHED: &[(&[u32], Stop)] = &[
+    // lw a0, 2(sp), whose address is no multiple of 4, and lies outside too
+    (&[0x0021_2503], Stop::Trapped(TrapKind::Misaligned)),
+    // sh a0, -1(sp)
+    (&[0xfea1_1fa3], Stop::Trapped(TrapKind::Misaligned)),
+    // lh a0, 1(zero)
+    (&[0x0010_1503], Stop::Trapped(TrapKind::Misaligned)),
+    // lui t0, 16; sw a0, 2(t0)
+    (
+        &[LUI_T0_16, 0x00a2_a123],
+        Stop::Trapped(TrapKind::Misaligned),
+    ),
+    // lb a0, 0(sp), behind the stack
+    (&[0x0001_0503], Stop::Trapped(TrapKind::Unmapped)),
+    // sd a0, 0(sp)
+    (&[0x00a1_3023], Stop::Trapped(TrapKind::Unmapped)),
+    // lui sp, 0x3f800; lb a0, -1(sp), before the stack
+    (
+        &[LUI_SP_0X3F800, 0xfff1_0503],
+        Stop::Trapped(TrapKind::Unmapped),
+    ),
+    // ld a0, 0(zero)
+    (&[0x0000_3503], Stop::Trapped(TrapKind::Unmapped)),
+    // lui t0, 16; lb a0, -1(t0), before the image
+    (&[LUI_T0_16, 0xfff2_8503], Stop::Trapped(TrapKind::Unmapped)),
+    // lui t0, 16; lw a0, 12(t0), behind the image
+    (
+        &[LUI_T0_16, 0x00c2_a503, 0],
+        Stop::Trapped(TrapKind::Unmapped),
+    ),
+    // lui t0, 16; sw a0, 12(t0)
+    (
+        &[LUI_T0_16, 0x00a2_a623, 0],
+        Stop::Trapped(TrapKind::Unmapped),
+    ),
+    // jal ra, .+8; ebreak; mv a0, ra; li a7, 93; ecall
+    (
+        &[0x0080_00ef, EBREAK, 0x0000_8513, ADDI_A7_ZERO_93, ECALL],
+        Stop::Exited(0x1_0004),
+    ),
+    // j .+16; li a7, 93; ecall; ebreak; jal ra, .-12
+    (
+        &[0x0100_006f, ADDI_A7_ZERO_93, ECALL, EBREAK, 0xff5f_f0ef],
+        Stop::Exited(0),
+    ),
+];
+
+/// The number of the first of these programs that ends otherwise, or 0.
+fn wrong_end(alloc: Global) -> usize {
+    for at in 0..REACHED.len() {
+        if end_of(alloc, REACHED[at].0, 4) != Ok(Some(REACHED[at].1)) {
+            return at + 1;
+        }
+    }
+    0
+}
+
+#[test]
+fn loads_stores_and_jumps_reach_their_addresses(rt: HostRuntime) {
+    assert_eq!(rt; wrong_end(rt.alloc()), 0);
+}
+
+/// It writes over its fourth instruction, an `ebreak`, what its last word is, `li a0, 7`:
+/// `lui t0, 16`, `lw t1, 24(t0)`, `sw t1, 12(t0)`, `ebreak`, `li a7, 93`, `ecall`, `li a0, 7`.
+const OVERWRITTEN: &[u32] = &[
+    LUI_T0_16,
+    0x0182_a303,
+    0x0062_a623,
+    EBREAK,
+    ADDI_A7_ZERO_93,
+    ECALL,
+    0x0070_0513,
+];
+
+#[test]
+fn what_is_stored_is_fetched(rt: HostRuntime) {
+    assert!(rt; end_of(rt.alloc(), OVERWRITTEN, 6) == Ok(Some(Stop::Exited(7))));
 }
 
 /// Gets a byte and puts it, twice, then gets one and exits with it.
