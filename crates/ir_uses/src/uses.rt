@@ -46,6 +46,13 @@ impl<'a> Locals<'a> {
             locals: Vec::new(alloc),
         }
     }
+
+    /// Forgets all names, and keeps the room for them.
+    fn clear(&mut self)
+        ensures { self.new.locals.items ≡ [] }
+    {
+        self.locals.clear();
+    }
 }
 
 impl<'a> Visitor<'a> for Locals<'a> {
@@ -137,15 +144,17 @@ pub fn uses_of<'a>(
 ) -> Result<Vec<LocalUse<'a>>, AllocError>
     ensures { IfOk result (λ uses. uses.items ≡ blocks_uses (value_of places.now) blocks.now) }
 {
+    let mut found = Locals::new(alloc);
     let mut uses = Vec::new(alloc);
     for (place, block) in blocks.iter().enumerate() {
-        push_block(alloc, places, blocks, &mut uses, place, block)?;
+        push_block(&mut found, places, blocks, &mut uses, place, block)?;
     }
     Ok(uses)
 }
 
+/// Adds the uses in a block, which stands at this place; `found` is room for the names of one part.
 fn push_block<'a>(
-    alloc: Global,
+    found: &mut Locals<'a>,
     places: &NameMap<'_, usize>,
     blocks: &'a [Block],
     uses: &mut Vec<LocalUse<'a>>,
@@ -154,14 +163,14 @@ fn push_block<'a>(
 ) -> Result<(), AllocError>
     ensures { OnOk result (uses.new.items ≡ uses.old.items ++ block_uses (value_of places.now) blocks.now place block.now) }
 {
-    push_phis(alloc, places, blocks, uses, block.phis.as_slice())?;
-    push_instrs(alloc, uses, place, block.instrs.as_slice())?;
+    push_phis(found, places, blocks, uses, block.phis.as_slice())?;
+    push_instrs(found, uses, place, block.instrs.as_slice())?;
     let before = block.instrs.as_slice().len();
-    push_term(alloc, uses, place, before, &block.term)
+    push_term(found, uses, place, before, &block.term)
 }
 
 fn push_phis<'a>(
-    alloc: Global,
+    found: &mut Locals<'a>,
     places: &NameMap<'_, usize>,
     blocks: &'a [Block],
     uses: &mut Vec<LocalUse<'a>>,
@@ -171,7 +180,7 @@ fn push_phis<'a>(
 {
     for phi in phis {
         push_entries(
-            alloc,
+            found,
             places,
             blocks,
             uses,
@@ -183,7 +192,7 @@ fn push_phis<'a>(
 }
 
 fn push_entries<'a>(
-    alloc: Global,
+    found: &mut Locals<'a>,
     places: &NameMap<'_, usize>,
     blocks: &'a [Block],
     uses: &mut Vec<LocalUse<'a>>,
@@ -193,14 +202,14 @@ fn push_entries<'a>(
     ensures { OnOk result (uses.new.items ≡ uses.old.items ++ flat_map (entry_uses (value_of places.now) blocks.now line) entries.now) }
 {
     for entry in entries {
-        push_entry(alloc, places, blocks, uses, line, entry)?;
+        push_entry(found, places, blocks, uses, line, entry)?;
     }
     Ok(())
 }
 
 /// Adds the use of an entry's value, at the end of the block that the entry names.
 fn push_entry<'a>(
-    alloc: Global,
+    found: &mut Locals<'a>,
     places: &NameMap<'_, usize>,
     blocks: &'a [Block],
     uses: &mut Vec<LocalUse<'a>>,
@@ -209,8 +218,8 @@ fn push_entry<'a>(
 ) -> Result<(), AllocError>
     ensures { OnOk result (uses.new.items ≡ uses.old.items ++ entry_uses (value_of places.now) blocks.now line entry.now) }
 {
-    let mut found = Locals::new(alloc);
-    entry.walk(&mut found)?;
+    found.clear();
+    entry.walk(found)?;
     match places.get(&entry.block.name) {
         Some(place) => push_locals(
             uses,
@@ -234,7 +243,7 @@ fn instr_count(blocks: &[Block], place: usize) -> usize
 }
 
 fn push_instrs<'a>(
-    alloc: Global,
+    found: &mut Locals<'a>,
     uses: &mut Vec<LocalUse<'a>>,
     place: usize,
     instrs: &'a [Instr],
@@ -242,14 +251,14 @@ fn push_instrs<'a>(
     ensures { OnOk result (uses.new.items ≡ uses.old.items ++ flat_numbered (instr_uses place) 0 instrs.now) }
 {
     for (before, instr) in instrs.iter().enumerate() {
-        push_instr(alloc, uses, place, before, instr)?;
+        push_instr(found, uses, place, before, instr)?;
     }
     Ok(())
 }
 
 /// Adds the uses of an instruction, which stands at this place.
 fn push_instr<'a>(
-    alloc: Global,
+    found: &mut Locals<'a>,
     uses: &mut Vec<LocalUse<'a>>,
     place: usize,
     before: usize,
@@ -257,14 +266,14 @@ fn push_instr<'a>(
 ) -> Result<(), AllocError>
     ensures { OnOk result (uses.new.items ≡ uses.old.items ++ instr_uses place before instr.now) }
 {
-    let mut found = Locals::new(alloc);
-    instr.walk(&mut found)?;
+    found.clear();
+    instr.walk(found)?;
     push_locals(uses, instr.line, place, before, found.locals.as_slice())
 }
 
 /// Adds the uses of a terminator, which stands at this place.
 fn push_term<'a>(
-    alloc: Global,
+    found: &mut Locals<'a>,
     uses: &mut Vec<LocalUse<'a>>,
     place: usize,
     before: usize,
@@ -272,8 +281,8 @@ fn push_term<'a>(
 ) -> Result<(), AllocError>
     ensures { OnOk result (uses.new.items ≡ uses.old.items ++ uses_in (term_line term.now) place before (term_parts term.now)) }
 {
-    let mut found = Locals::new(alloc);
-    term.walk(&mut found)?;
+    found.clear();
+    term.walk(found)?;
     push_locals(uses, term.line(), place, before, found.locals.as_slice())
 }
 
