@@ -6,11 +6,11 @@ use Rattle.std.specs.List.{flat_map, list_all}
 use Rattle.rv_isa.specs.Symbol.{AreBytes, escaped, is_bare, is_symbol_byte, spelled}
 use Rattle.rv_isa.specs.Text.{instruction_line}
 use Rattle.asm_line.specs.Statements.{IsStatement}
-use Rattle.asm_line.specs.Names.{IsAbsent}
+use Rattle.asm_inst.specs.Bytes.{IsAbsent}
 use Rattle.rv_isa.specs.declared.statement.Statement.{Statement}
 use Rattle.rv_isa.specs.declared.statement.Statement.TheVariants.{Text, Global, Align, Define, Code}
-use Rattle.asm_line.proofs.CodeLemmas.{calm_unfed, code_calm}
-use Rattle.asm_line.proofs.RegisterLemmas.{absent_from_test}
+use Rattle.asm_inst.proofs.CodeLemmas.{calm_unfed, code_calm}
+use Rattle.asm_inst.proofs.RegisterLemmas.{absent_from_test}
 use Rattle.rv_isa.specs.Statements.{statement_line}
 use Rattle.asm_line.proofs.SymbolLemmas.{how_spelled}
 

@@ -3,8 +3,8 @@ use Rattle.std.proofs.Common.{◌≡◌, ◌&&◌, ℕ, List, [], ◌∷◌, ◌
 use Rattle.std.proofs.lemmas.Bool.Decides.{nat_tests}
 use Rattle.std.specs.List.{list_all}
 use Rattle.rv_isa.specs.Symbol.{IsLabel, is_digit, is_number}
-use Rattle.asm_line.specs.Names.{IsAbsent, IsCut}
-use Rattle.asm_line.proofs.BytesLemmas.{cut_once}
+use Rattle.asm_inst.specs.Bytes.{IsAbsent, IsCut}
+use Rattle.asm_inst.proofs.BytesLemmas.{cut_once}
 
 digit_is_other : (b : ℕ) → is_digit b ≡ true → b ≡ 95 → ⊥
 digit_is_other b h e = grind (arith, nat_tests)

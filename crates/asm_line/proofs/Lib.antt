@@ -1,9 +1,4 @@
-pub mod BytesLemmas
-pub mod NumberLemmas
-pub mod SymbolLemmas
-pub mod LabelLemmas
-pub mod RegisterLemmas
-pub mod LineLemmas
-pub mod StatementLemmas
-pub mod CodeLemmas
 pub mod FeedLemmas
+pub mod LabelLemmas
+pub mod StatementLemmas
+pub mod SymbolLemmas

@@ -8,7 +8,7 @@ use Rattle.std.proofs.lemmas.List.Elements.{All-tail}
 use Rattle.std.specs.List.{flat_map}
 use Rattle.std.proofs.Common.{inl, inr}
 use Rattle.std.proofs.lemmas.Bool.{false≢true}
-use Rattle.asm_line.proofs.BytesLemmas.{last_same, tail_same}
+use Rattle.asm_inst.proofs.BytesLemmas.{last_same, tail_same}
 use Rattle.rv_isa.specs.Symbol.{AreBytes, escaped, is_bare, spelled}
 
 pub escaped_once : (b d : ℕ) (rest more : List ℕ) → b < 256 → d < 256 → escaped b ++ rest ≡ escaped d ++ more → (b ≡ d) × (rest ≡ more)

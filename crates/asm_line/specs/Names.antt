@@ -1,5 +1,5 @@
 -- Parts of a name's spelling.
-use Rattle.std.specs.Prelude.{◌≡◌, ◌≢◌, ◌+◌, ◌/◌, ◌%◌, ◌&&◌, ℕ, Bool, nat_le, List, [], ◌∷◌, ◌++◌}
+use Rattle.std.specs.Prelude.{◌+◌, ◌/◌, ◌%◌, ◌&&◌, ℕ, Bool, nat_le, List, [], ◌∷◌}
 
 abbrev pub is_printable : ℕ → Bool
 is_printable b = nat_le 32 b && nat_le b 126
@@ -7,12 +7,3 @@ is_printable b = nat_le 32 b && nat_le b 126
 -- three octal digits
 abbrev pub octal : ℕ → List ℕ
 octal b = (48 + b / 64) ∷ (48 + b / 8 % 8) ∷ (48 + b % 8) ∷ []
-
--- b is none of the bytes
-abbrev pub IsAbsent : ℕ → List ℕ → Type 0
-IsAbsent b [] = Unit {0}
-IsAbsent b (x ∷ xs) = (x ≢ b) × IsAbsent b xs
-
--- the bytes are cut at the first b
-abbrev pub IsCut : ℕ → List ℕ → List ℕ → List ℕ → Type 0
-IsCut b bytes prefix back = (bytes ≡ prefix ++ b ∷ back) × IsAbsent b prefix

@@ -1,25 +1,12 @@
 -- Which statements are read, and what each of them does.
-use Rattle.std.specs.Prelude.{◌≡◌, ◌<◌, ◌⊎◌, ℕ, ℤ, Bool, true, false, Option, Some, None, List, [], ◌∷◌}
-use Rattle.rv_isa.specs.Encoding.{IsSigned12}
-use Rattle.rv_isa.specs.Instructions.{li, mv, ret}
+use Rattle.std.specs.Prelude.{◌≡◌, ℕ, Bool, true, false, Option, Some, None, List, [], ◌∷◌}
 use Rattle.rv_isa.specs.Statements.{statement_line}
 use Rattle.rv_isa.specs.Symbol.{IsSymbol}
-use Rattle.rv_isa.specs.declared.inst.Inst.{Inst}
 use Rattle.rv_isa.specs.declared.inst.Line.{Line}
 use Rattle.rv_isa.specs.declared.inst.Line.TheVariants.{Plain}
 use Rattle.rv_isa.specs.declared.statement.Statement.{Statement}
 use Rattle.rv_isa.specs.declared.statement.Statement.TheVariants.{Text, Global, Align, Define, Code}
-
-abbrev pub IsLi : Inst → Type 0
-IsLi inst = (rd : ℕ) × (imm : ℤ) × (rd < 32) × IsSigned12 imm × (inst ≡ li rd imm)
-
--- A move from x0 is no `mv`: it is spelled as a `li` of 0.
-abbrev pub IsMv : Inst → Type 0
-IsMv inst = (rd rs : ℕ) × (rd < 32) × (0 < rs) × (rs < 32) × (inst ≡ mv rd rs)
-
--- the instructions that the assembler reads
-abbrev pub IsRead : Inst → Type 0
-IsRead inst = IsLi inst ⊎ IsMv inst ⊎ (inst ≡ ret)
+use Rattle.asm_inst.specs.Grammar.{IsRead}
 
 -- the grammar of statements
 abbrev pub IsStatement : Statement → Type 0

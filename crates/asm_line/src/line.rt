@@ -1,93 +1,14 @@
 //! Lines of the grammar.
-ghost use Rattle.std.specs.Prelude.{◌≡◌, List, [], ◌∷◌, ℕ, IfOk, MatchOption};
-ghost use Rattle.rv_isa.specs.Text as text;
-ghost use Rattle.rv_isa.specs.Text.{instruction_line};
+ghost use Rattle.std.specs.Prelude.{◌≡◌, IfOk};
 ghost use Rattle.rv_isa.specs.Statements.{statement_line};
 ghost use Rattle.rv_isa.specs.Symbol.{IsSymbol};
-ghost use Rattle.asm_line.specs.Statements.{IsLi, IsMv, IsRead, Says};
-ghost use Rattle.asm_line.specs.Names.{IsAbsent};
-ghost use Rattle.asm_line.specs.Readings.{Reads};
+ghost use Rattle.asm_line.specs.Statements.{Says};
+ghost use Rattle.asm_inst.specs.Readings.{Reads};
 
-use crate::bytes::{after, before, cut_at};
-use crate::number::read_immediate;
-use crate::register::read_register;
 use crate::symbol::read_symbol;
-use rv_isa::{Inst, Statement, SymName};
+use asm_inst::{after, before, read_inst};
+use rv_isa::{Statement, SymName};
 use std::alloc::{AllocError, Global};
-
-/// Two operands, separated by a comma and a blank. The first has no comma in it.
-fn two_operands(operands: &[u8]) -> Option<(&[u8], &[u8])>
-    ensures { MatchOption result
-        ((first second : List ℕ) → IsAbsent 44 first
-        → operands.now ≡ text.operands (first ∷ second ∷ []) → ⊥)
-        (λ found. IsAbsent 44 found.0.now
-        × (operands.now ≡ text.operands (found.0.now ∷ found.1.now ∷ []))) }
-{
-    let Some((first, rest)) = cut_at(operands, b',') else {
-        return None;
-    };
-    let Some(second) = after(rest, b" ") else {
-        return None;
-    };
-    Some((first, second))
-}
-
-/// The instruction of a line `li rd, imm`.
-fn read_li(line: &[u8]) -> Option<Inst>
-    ensures { Reads (λ inst. IsLi inst × (line.now ≡ instruction_line inst)) result }
-{
-    let Some(operands) = after(line, b"\tli\t") else {
-        return None;
-    };
-    let Some((first, second)) = two_operands(operands) else {
-        return None;
-    };
-    let Some(rd) = read_register(first) else {
-        return None;
-    };
-    let Some(imm) = read_immediate(second) else {
-        return None;
-    };
-    Some(Inst::li(rd, imm))
-}
-
-/// The instruction of a line `mv rd, rs`. A move from `zero` is spelled as a `li`.
-fn read_mv(line: &[u8]) -> Option<Inst>
-    ensures { Reads (λ inst. IsMv inst × (line.now ≡ instruction_line inst)) result }
-{
-    let Some(operands) = after(line, b"\tmv\t") else {
-        return None;
-    };
-    let Some((first, second)) = two_operands(operands) else {
-        return None;
-    };
-    let Some(rd) = read_register(first) else {
-        return None;
-    };
-    let Some(rs1) = read_register(second) else {
-        return None;
-    };
-    if rs1 == 0 {
-        return None;
-    }
-    Some(Inst::mv(rd, rs1))
-}
-
-/// The instruction of a line.
-fn read_code(line: &[u8]) -> Option<Inst>
-    ensures { Reads (λ inst. IsRead inst × (line.now ≡ instruction_line inst)) result }
-{
-    if let Some(inst) = read_li(line) {
-        return Some(inst);
-    }
-    if let Some(inst) = read_mv(line) {
-        return Some(inst);
-    }
-    if line == b"\tret".as_slice() {
-        return Some(Inst::ret());
-    }
-    None
-}
 
 /// The symbol of a line `.globl symbol`.
 fn read_global(alloc: Global, line: &[u8]) -> Result<Option<SymName>, AllocError>
@@ -123,7 +44,7 @@ pub fn read_line(alloc: Global, line: &[u8]) -> Result<Option<Statement>, AllocE
     if line == b"\t.p2align\t2".as_slice() {
         return Ok(Some(Statement::Align));
     }
-    if let Some(inst) = read_code(line) {
+    if let Some(inst) = read_inst(line) {
         return Ok(Some(Statement::Code(inst)));
     }
     if let Some(name) = read_global(alloc, line)? {

@@ -3,11 +3,10 @@ ghost use Rattle.std.specs.Prelude.{◌≡◌, ◌<◌, ◌++◌, ℕ, List, [],
 ghost use Rattle.std.specs.List.{flat_map, list_all};
 ghost use Rattle.rv_isa.specs.Symbol as symbol;
 ghost use Rattle.rv_isa.specs.Symbol.{AreBytes, IsLabel, IsSymbol};
-ghost use Rattle.asm_line.specs.Readings.{Reads};
+ghost use Rattle.asm_inst.specs.Readings.{Reads};
 ghost use Rattle.asm_line.specs.Names.{is_printable, octal};
 
-use crate::bytes::{after, cut_at};
-use crate::number::is_number;
+use asm_inst::{after, cut_at, is_number};
 use rv_isa::SymName;
 use std::alloc::{AllocError, Global};
 

@@ -11,9 +11,10 @@ use Rattle.rv_isa.specs.Text.{instruction_line}
 use Rattle.rv_isa.specs.declared.inst.Inst.{Inst}
 use Rattle.rv_isa.specs.declared.statement.Statement.{Statement}
 use Rattle.rv_isa.specs.declared.statement.Statement.TheVariants.{Text, Global, Align, Define, Code}
-use Rattle.asm_line.specs.Statements.{IsRead, IsStatement, defined, exported}
-use Rattle.asm_line.proofs.CodeLemmas.{are_calm, code_calm, is_calm}
-use Rattle.asm_line.proofs.LineLemmas.{li_line, mv_line}
+use Rattle.asm_inst.specs.Grammar.{IsRead}
+use Rattle.asm_line.specs.Statements.{IsStatement, defined, exported}
+use Rattle.asm_inst.proofs.CodeLemmas.{are_calm, code_calm, is_calm}
+use Rattle.asm_inst.proofs.OnceLemmas.{code_begins}
 use Rattle.asm_line.proofs.SymbolLemmas.{how_spelled}
 use Rattle.asm_print.specs.Symbols.{after_percent, defined_in, exported_in, is_label, leading, needed_in, one_symbol, quoted_prefix, symbol_at}
 use Rattle.asm_print.proofs.Labels.{no_label}
@@ -155,15 +156,30 @@ export_exports name = ap (λ s. one_symbol (symbol_at s)) (sym (append-nil (spel
 
 -- Lines of code.
 
-code_defines : (inst : Inst) → IsRead inst → defined_in (instruction_line inst) ≡ []
-code_defines inst (inl h) = ap defined_in (ap instruction_line h.4 ∙ li_line h.0 h.1)
-code_defines inst (inr (inl h)) = ap defined_in (ap instruction_line h.5 ∙ mv_line h.0 h.1 h.3)
-code_defines inst (inr (inr h)) = ap (λ i. defined_in (instruction_line i)) h
+-- a line of code is no directive
+no_directive : (b : ℕ) (rest word : List ℕ) → (b == 46) ≡ false → starts_with nat_eq (9 ∷ b ∷ rest) (9 ∷ 46 ∷ word) ≡ false
+no_directive b rest word plain = and_left _ _ (ne_eqb 46 b (λ e. both_ways (b == 46) plain (subst (λ x. (x == 46) ≡ true) e refl)))
 
-code_exports : (inst : Inst) → IsRead inst → exported_in (instruction_line inst) ≡ []
-code_exports inst (inl h) = ap exported_in (ap instruction_line h.4 ∙ li_line h.0 h.1)
-code_exports inst (inr (inl h)) = ap exported_in (ap instruction_line h.5 ∙ mv_line h.0 h.1 h.3)
-code_exports inst (inr (inr h)) = ap (λ i. exported_in (instruction_line i)) h
+defines_none : (b : ℕ) (rest : List ℕ) → (b == 46) ≡ false → defined_in (9 ∷ b ∷ rest) ≡ []
+defines_none b rest plain =
+    ap (λ t. cond t (one_symbol (symbol_at (drop 6 (9 ∷ b ∷ rest)))) []) (no_directive b rest (codes "set\t") plain)
+
+exports_none : (b : ℕ) (rest : List ℕ) → (b == 46) ≡ false → exported_in (9 ∷ b ∷ rest) ≡ []
+exports_none b rest plain =
+    ap (λ t. cond t (one_symbol (symbol_at (drop 8 (9 ∷ b ∷ rest)))) []) (no_directive b rest (codes "globl\t") plain)
+
+needs_percent : (b : ℕ) (rest : List ℕ) → (b == 46) ≡ false → needed_in (9 ∷ b ∷ rest) ≡ after_percent (9 ∷ b ∷ rest)
+needs_percent b rest plain =
+    let line : List ℕ = 9 ∷ b ∷ rest in
+    ap (λ t. cond t (one_symbol (symbol_at (drop 8 line))) (cond (starts_with nat_eq line (codes "\t.")) [] (after_percent line)))
+    (no_directive b rest (codes "dword\t") plain)
+    ∙ ap (λ t. cond t [] (after_percent line)) (no_directive b rest [] plain)
+
+code_defines : (inst : Inst) → defined_in (instruction_line inst) ≡ []
+code_defines inst = let begins = code_begins inst in ap defined_in begins.is ∙ defines_none begins.first begins.rest begins.plain
+
+code_exports : (inst : Inst) → exported_in (instruction_line inst) ≡ []
+code_exports inst = let begins = code_begins inst in ap exported_in begins.is ∙ exports_none begins.first begins.rest begins.plain
 
 calm_needs : (bytes : List ℕ) → are_calm bytes ≡ true → after_percent bytes ≡ []
 calm_needs [] calm = refl
@@ -174,13 +190,12 @@ calm_needs (b ∷ bytes) calm =
 
 -- what follows a tab is looked through
 code_needs : (inst : Inst) → IsRead inst → needed_in (instruction_line inst) ≡ []
-code_needs inst (inl h) =
-    let line = ap instruction_line h.4 ∙ li_line h.0 h.1 in
-    ap needed_in line ∙ sym (ap after_percent line) ∙ calm_needs (instruction_line inst) (code_calm inst (inl h))
-code_needs inst (inr (inl h)) =
-    let line = ap instruction_line h.5 ∙ mv_line h.0 h.1 h.3 in
-    ap needed_in line ∙ sym (ap after_percent line) ∙ calm_needs (instruction_line inst) (code_calm inst (inr (inl h)))
-code_needs inst (inr (inr h)) = ap (λ i. needed_in (instruction_line i)) h
+code_needs inst read =
+    let begins = code_begins inst in
+    ap needed_in begins.is
+    ∙ needs_percent begins.first begins.rest begins.plain
+    ∙ ap after_percent (sym begins.is)
+    ∙ calm_needs (instruction_line inst) (code_calm inst read)
 
 -- the symbol of a name, where there is one
 abbrev pub symbol_if : Option (List ℕ) → List (List ℕ)
@@ -192,14 +207,14 @@ line_defines Text formed = refl
 line_defines (Global name) formed = refl
 line_defines Align formed = refl
 line_defines (Define name) formed = definition_defines name (no_label name formed.1)
-line_defines (Code inst) formed = code_defines inst formed
+line_defines (Code inst) formed = code_defines inst
 
 pub line_exports : (statement : Statement) → IsStatement statement → exported_in (statement_line statement) ≡ symbol_if (exported statement)
 line_exports Text formed = refl
 line_exports (Global name) formed = export_exports name
 line_exports Align formed = refl
 line_exports (Define name) formed = definition_exports name
-line_exports (Code inst) formed = code_exports inst formed
+line_exports (Code inst) formed = code_exports inst
 
 pub line_needs : (statement : Statement) → IsStatement statement → needed_in (statement_line statement) ≡ []
 line_needs Text formed = refl

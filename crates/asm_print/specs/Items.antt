@@ -9,7 +9,7 @@ use Rattle.rv_isa.specs.declared.inst.Inst.{Inst}
 use Rattle.rv_isa.specs.declared.inst.Line.TheVariants.{Plain}
 use Rattle.rv_isa.specs.declared.statement.Statement.{Statement}
 use Rattle.rv_isa.specs.declared.statement.Statement.TheVariants.{Text, Global, Align, Define, Code}
-use Rattle.asm_line.specs.Statements.{IsRead}
+use Rattle.asm_inst.specs.Grammar.{IsRead}
 use Rattle.asm_read.specs.declared.object.Object.{Object}
 use Rattle.asm_read.specs.declared.object.ObjectSymbol.{ObjectSymbol}
 use Rattle.asm_read.specs.declared.object.Section as section

@@ -12,7 +12,7 @@ use Rattle.asm_read.specs.declared.object.Object.{Object}
 use Rattle.asm_read.specs.declared.object.ObjectSymbol.{ObjectSymbol}
 use Rattle.asm_read.specs.declared.refusal.AsmRefusal.TheVariants.{Line as RefusedLine}
 use Rattle.asm_read.proofs.BadLemmas.{passed_is_not_bad, read_length, refused_is_bad}
-use Rattle.asm_line.proofs.BytesLemmas.{tail_same}
+use Rattle.asm_inst.proofs.BytesLemmas.{tail_same}
 use Rattle.asm_line.proofs.StatementLemmas.{statement_once}
 use Rattle.rv_isa.specs.Statements.{statement_line}
 use Rattle.asm_read.proofs.PieceLemmas.{lines_of_statements, lines_once, text_is_lines}

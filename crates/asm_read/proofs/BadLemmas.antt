@@ -7,7 +7,7 @@ use Rattle.asm_read.specs.Assembly.{IsBad, defines, is_some_and, needs_section}
 use Rattle.asm_read.specs.Assembly.IsBad.{outside, early, again, unknown}
 use Rattle.asm_read.specs.Checks.{AreRead, is_early, refuses, refuses_at}
 use Rattle.asm_line.specs.Statements.{Says, defined, exported, opens}
-use Rattle.asm_line.specs.Readings.{Reads}
+use Rattle.asm_inst.specs.Readings.{Reads}
 use Rattle.rv_isa.specs.declared.statement.Statement.{Statement}
 use Rattle.rv_isa.specs.declared.statement.Statement.TheVariants.{Text, Global, Define}
 use Rattle.asm_read.proofs.ReadLemmas.{any_from_line, defines_tests, line_from_any, opens_tests, reads_that}

@@ -1,19 +1,16 @@
 -- Words and symbols, one line more.
-use Rattle.std.proofs.Common.{◌≡◌, ◌<◌, ◌+◌, ◌*◌, ◌||◌, ◌∙◌, ℕ, List, [], ◌∷◌, ◌++◌, Bool, Option, Some, None, All, inl, inr, pos, refl, sym, ap, subst, arith, take, get_or, length, length-append}
+use Rattle.std.proofs.Common.{◌≡◌, ◌<◌, ◌+◌, ◌*◌, ◌||◌, ◌∙◌, ℕ, List, [], ◌∷◌, ◌++◌, Bool, Option, Some, None, All, pos, refl, sym, ap, arith, take, get_or, length, length-append}
 use Rattle.std.proofs.lemmas.Grind.{flat_map-append}
-use Rattle.std.proofs.lemmas.Int.{ints}
 use Rattle.std.proofs.lemmas.List.{append-nil, append_assoc, take_more}
 use Rattle.std.proofs.lemmas.List.Elements.{All-head, All-tail, filter_map-append}
 use Rattle.std.specs.List.{list_any}
-use Rattle.rv_isa.specs.Encoding.{IsInst}
 use Rattle.rv_isa.specs.Relocation.{AreLines}
-use Rattle.rv_isa.specs.declared.inst.Inst.{Inst}
 use Rattle.rv_isa.specs.declared.inst.Line.{Line}
 use Rattle.rv_isa.specs.declared.statement.Statement.{Statement}
 use Rattle.rv_isa.specs.declared.statement.Statement.TheVariants.{Code}
 use Rattle.asm_read.specs.Assembly.{exports, is_some_and, symbol_at, symbols_after, words}
 use Rattle.asm_read.specs.Checks.{in_line, statements_in}
-use Rattle.asm_line.specs.Statements.{IsRead, IsStatement, code, defined}
+use Rattle.asm_line.specs.Statements.{IsStatement, code, defined}
 use Rattle.asm_read.specs.declared.object.ObjectSymbol.{ObjectSymbol}
 use Rattle.asm_read.specs.declared.object.Section as section
 
@@ -79,13 +76,8 @@ symbols_more lines k line ws n g old new l e told h was count is =
     ∙ ap (symbols_after global 0) (sym (statements_more lines k line l e))
 
 -- a statement's instruction has a word
-read_is_inst : (inst : Inst) → IsRead inst → IsInst inst
-read_is_inst inst (inl h) = subst IsInst (sym h.4) (record { rd = h.2; rs1 = omega arith; rs2 = omega arith; row = (refl, h.3) })
-read_is_inst inst (inr (inl h)) = subst IsInst (sym h.5) (record { rd = h.2; rs1 = h.4; rs2 = omega arith; row = (refl, (omega (arith, ints), omega (arith, ints))) })
-read_is_inst inst (inr (inr h)) = subst IsInst (sym h) (record { rd = omega arith; rs1 = omega arith; rs2 = omega arith; row = (refl, (omega (arith, ints), omega (arith, ints))) })
-
 pub words_are_lines : (statements : List Statement) → All IsStatement statements → AreLines (words statements)
 words_are_lines [] h = tt
 words_are_lines (Code inst ∷ statements) h =
-    (read_is_inst inst (All-head IsStatement (Code inst) statements h), words_are_lines statements (All-tail IsStatement (Code inst) statements h))
+    ((All-head IsStatement (Code inst) statements h).inst, words_are_lines statements (All-tail IsStatement (Code inst) statements h))
 words_are_lines (other ∷ statements) h = words_are_lines statements (All-tail IsStatement other statements h)

@@ -7,7 +7,7 @@ use Rattle.rv_isa.specs.Lines.{ended, in_first, pieces_of, text_of_lines}
 use Rattle.asm_read.specs.Assembly.{HasLines}
 use Rattle.asm_line.specs.Statements.{IsStatement}
 use Rattle.rv_isa.specs.declared.statement.Statement.{Statement}
-use Rattle.asm_line.proofs.BytesLemmas.{end_same, last_same}
+use Rattle.asm_inst.proofs.BytesLemmas.{end_same, last_same}
 use Rattle.asm_line.proofs.FeedLemmas.{statement_unfed}
 use Rattle.rv_isa.specs.Statements.{statement_line}
 use Rattle.asm_read.proofs.TextLemmas.{line_is_first}

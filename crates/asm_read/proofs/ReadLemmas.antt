@@ -7,7 +7,7 @@ use Rattle.rv_isa.specs.Statements.{statement_line}
 use Rattle.asm_read.specs.Assembly.{defines, is_some_and}
 use Rattle.asm_read.specs.Checks.{AreRead}
 use Rattle.asm_line.specs.Statements.{IsStatement, Says, opens}
-use Rattle.asm_line.specs.Readings.{Reads}
+use Rattle.asm_inst.specs.Readings.{Reads}
 use Rattle.rv_isa.specs.declared.statement.Statement.{Statement}
 use Rattle.rv_isa.specs.declared.statement.Statement.TheVariants.{Text, Define}
 use Rattle.asm_line.proofs.StatementLemmas.{said_once}

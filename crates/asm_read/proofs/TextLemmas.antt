@@ -5,8 +5,8 @@ use Rattle.std.proofs.lemmas.List.{append_assoc}
 use Rattle.rv_isa.specs.Lines.{in_first, pieces_of}
 use Rattle.asm_read.specs.Checks.{AreRead}
 use Rattle.asm_line.specs.Statements.{Says}
-use Rattle.asm_line.specs.Names.{IsAbsent}
-use Rattle.asm_line.specs.Readings.{Reads}
+use Rattle.asm_inst.specs.Bytes.{IsAbsent}
+use Rattle.asm_inst.specs.Readings.{Reads}
 use Rattle.rv_isa.specs.declared.statement.Statement.{Statement}
 
 other_byte : (b : ℕ) → b ≢ 10 → (b == 10) ≡ false

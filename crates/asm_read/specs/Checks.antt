@@ -6,7 +6,7 @@ use Rattle.std.specs.Str.{bytes_eq}
 use denote.Ref.{Bor}
 use Rattle.rv_isa.specs.declared.statement.Statement.{Statement}
 use Rattle.asm_read.specs.Assembly.{HasLines, defines, is_some_and, needs_section}
-use Rattle.asm_line.specs.Readings.{Reads}
+use Rattle.asm_inst.specs.Readings.{Reads}
 use Rattle.asm_line.specs.Statements.{Says, defined, exported, opens}
 
 -- each line, and what was read from it

@@ -1,7 +1,7 @@
 //! An assembler for the text that the code generator writes.
 //!
 //! A text is lines, each ended by a line feed, and `asm_line` reads what each of them says: directives,
-//! symbols and the instructions `li`, `mv` and `ret`.
+//! symbols and instructions.
 #![tactic(auto)]
 
 mod assembler;

@@ -2,7 +2,8 @@
 ghost use Rattle.std.specs.Prelude.{IfOk};
 ghost use Rattle.asm_read.specs.Checks.{AreLinesOf};
 
-use asm_line::{cut_at, read_line};
+use asm_inst::cut_at;
+use asm_line::read_line;
 use rv_isa::Statement;
 use std::alloc::{AllocError, Global};
 

@@ -1,8 +1,9 @@
 //! Texts that are assembled, and texts that are refused.
 use crate::code::{Code, RET, is_code};
+use crate::encoding::ENCODED;
 use asm_read::{AsmRefusal, Object, ObjectSymbol, Section, assemble};
 use rv_isa::{Line, Op};
-use std::alloc::Global;
+use std::alloc::{AllocError, Global};
 
 /// A symbol: its name, whether it is global, and its offset in the text.
 type Symbol = (&'static [u8], bool, i128);
@@ -107,6 +108,29 @@ const REFUSED: &[(&[u8], u64)] = &[
     (b"\t.text\n\"a\":\n", 2),
     (b"\t.text\n.LBB0_1:\n", 2),
     (b"\t.text\n\n", 2),
+    (b"\t.text\n\taddi\tt0, a0, 0\n", 2), // long for mv, li and ret
+    (b"\t.text\n\taddi\tt0, zero, 5\n", 2),
+    (b"\t.text\n\tjalr\tzero, 0(ra)\n", 2),
+    (b"\t.text\n\tadd\ta0, a1\n", 2), // other operands
+    (b"\t.text\n\tadd\ta0, a1, 2\n", 2),
+    (b"\t.text\n\tadd\ta0, a1, a2, a3\n", 2),
+    (b"\t.text\n\txori\ta0, a1, a2\n", 2),
+    (b"\t.text\n\tld\ta0, a1\n", 2),
+    (b"\t.text\n\tld\ta0, 8(a1) \n", 2),
+    (b"\t.text\n\tld\ta0, 8(x1)\n", 2),
+    (b"\t.text\n\tecall\t\n", 2),
+    (b"\t.text\n\tnop\n", 2),
+    (b"\t.text\n\tadd\ta0,a1,a2\n", 2), // blanks
+    (b"\t.text\n add\ta0, a1, a2\n", 2),
+    (b"\t.text\n\tslli\ta0, a1, 64\n", 2), // numbers out of range
+    (b"\t.text\n\tslliw\ta0, a1, 32\n", 2),
+    (b"\t.text\n\tsd\ta0, 2048(a1)\n", 2),
+    (b"\t.text\n\tlui\ta0, 1048576\n", 2),
+    (b"\t.text\n\tlui\ta0, -1\n", 2),
+    (b"\t.text\n\tbeq\ta0, a1, 12\n", 2),
+    (b"\t.text\n\txori\ta0, a1, +1\n", 2),
+    (b"\t.text\n\tj\t8\n", 2),
+    (b"\tecall\n\t.text\n", 1),
     (b"\t.p2align\t2\n\t.text\n", 1),
     (b"a:\n\t.text\n", 1),
     (b"\t.globl\ta\na:\n\t.text\n", 2),
@@ -137,4 +161,58 @@ fn wrong_refusal(alloc: Global) -> usize {
 #[test]
 fn the_first_bad_line_is_named(rt: HostRuntime) {
     assert_eq!(rt; wrong_refusal(rt.alloc()), 0);
+}
+
+/// A text of one line, the instruction of this assembly, whose distances are written as numbers.
+fn text_of(alloc: Global, assembly: &str) -> Result<Vec<u8>, AllocError> {
+    let mut text = Vec::from_slice(alloc, b"\t.text\n\t")?;
+    let mut in_word = true;
+    for byte in assembly.as_bytes() {
+        match *byte {
+            b' ' if in_word => {
+                in_word = false;
+                text.push(b'\t')?;
+            }
+            b'.' | b'+' => {}
+            other => text.push(other)?,
+        }
+    }
+    text.push(b'\n')?;
+    Ok(text)
+}
+
+/// Whether a line of this instruction stands in a text: a branch goes by 8 there, and there is no jump by a number.
+fn is_in_text(code: Code) -> bool {
+    match code.0 {
+        Op::Auipc | Op::Jal | Op::Fence | Op::Ebreak => false,
+        Op::Beq | Op::Bne | Op::Blt | Op::Bge | Op::Bltu | Op::Bgeu => code.4 == 8,
+        _ => true,
+    }
+}
+
+/// Whether assembly is read as this instruction, or refused where it stands in no text.
+fn is_read(alloc: Global, assembly: &str, code: Code) -> bool {
+    let Ok(text) = text_of(alloc, assembly) else {
+        return false;
+    };
+    if is_in_text(code) {
+        is_assembled(alloc, text.as_slice(), &[code], &[])
+    } else {
+        refused_line(alloc, text.as_slice()) == 2
+    }
+}
+
+/// The number of the first instruction of the table of words whose assembly is read as another, or 0.
+fn wrong_line(alloc: Global) -> usize {
+    for at in 0..ENCODED.len() {
+        if !is_read(alloc, ENCODED[at].1, ENCODED[at].2) {
+            return at + 1;
+        }
+    }
+    0
+}
+
+#[test]
+fn instructions_are_read_from_their_assembly(rt: HostRuntime) {
+    assert_eq!(rt; wrong_line(rt.alloc()), 0);
 }

@@ -3,7 +3,7 @@ use crate::code::{Code, RET, is_code};
 use rv_isa::{Inst, Op, decode, encode};
 
 /// Words that LLVM's assembler gives, their assembly, and their instructions.
-const ENCODED: &[(u32, &str, Code)] = &[
+pub(crate) const ENCODED: &[(u32, &str, Code)] = &[
     (0x00c5_8533, "add a0, a1, a2", (Op::Add, 10, 11, 12, 0)),
     (0x41f0_0fb3, "sub t6, zero, t6", (Op::Sub, 31, 0, 31, 0)),
     (0x010f_90b3, "sll ra, t6, a6", (Op::Sll, 1, 31, 16, 0)),
@@ -36,7 +36,7 @@ const ENCODED: &[(u32, &str, Code)] = &[
     (0x03f0_5fbb, "divuw t6, zero, t6", (Op::Divuw, 31, 0, 31, 0)),
     (0x030f_e0bb, "remw ra, t6, a6", (Op::Remw, 1, 31, 16, 0)),
     (0x02c5_f53b, "remuw a0, a1, a2", (Op::Remuw, 10, 11, 12, 0)),
-    (0x0005_0293, "addi t0, a0, 0", (Op::Addi, 5, 10, 0, 0)),
+    (0x0005_0293, "mv t0, a0", (Op::Addi, 5, 10, 0, 0)),
     (0x0005_8313, "mv t1, a1", (Op::Addi, 6, 11, 0, 0)),
     (0x0000_0513, "li a0, 0", (Op::Addi, 10, 0, 0, 0)),
     (0xff90_0293, "li t0, -7", (Op::Addi, 5, 0, 0, -7)),
@@ -82,6 +82,7 @@ const ENCODED: &[(u32, &str, Code)] = &[
     (0xfff0_1c23, "sh t6, -8(zero)", (Op::Sh, 0, 0, 31, -8)),
     (0x810f_a023, "sw a6, -2048(t6)", (Op::Sw, 0, 31, 16, -2048)),
     (0x7ec5_bfa3, "sd a2, 2047(a1)", (Op::Sd, 0, 11, 12, 2047)),
+    (0x00b5_0463, "beq a0, a1, .+8", (Op::Beq, 0, 10, 11, 8)),
     (
         0x7ff0_0fe3,
         "beq zero, t6, .+4094",

@@ -1,0 +1,10 @@
+pub mod BytesLemmas
+pub mod CodeLemmas
+pub mod FieldLemmas
+pub mod FormLemmas
+pub mod MnemonicLemmas
+pub mod NumberLemmas
+pub mod OnceLemmas
+pub mod OperandLemmas
+pub mod ReadingLemmas
+pub mod RegisterLemmas
