@@ -60,6 +60,13 @@ number_stored blocks at size number place block new is put =
     ap (set blocks place) (put ∙ ap (after_store at (to_little size number)) is.here)
     ∙ sym (stored_at at size (to_little size number) (length-to_little size number) is.some blocks is.memory place block is.inside is.held)
 
+-- the same of bytes that are stored
+pub bytes_stored : (blocks : List Block) (at size place : ℕ) (bytes : List ℕ) → length bytes ≡ size → (block new : Block) → IsFound blocks at size place block →
+    new ≡ after_store at bytes block → set blocks place new ≡ stored at bytes blocks
+bytes_stored blocks at size place bytes long block new is put =
+    ap (set blocks place) (put ∙ ap (after_store at bytes) is.here)
+    ∙ sym (stored_at at size bytes long is.some blocks is.memory place block is.inside is.held)
+
 -- whether it is writable
 pub found_writable : (blocks : List Block) (at size place : ℕ) (block : Block) → IsFound blocks at size place block →
     block.writable ≡ option_map_or (λ (b : Block). b.writable) (block_at blocks at size) false
@@ -67,14 +74,25 @@ found_writable blocks at size place block is =
     ap (λ (b : Block). b.writable) is.here ∙ sym (writable_at at size is.some blocks is.memory place block is.inside is.held)
 
 -- the blocks with a new one among them
+pub block_placed : (blocks now : List Block) (block : Block) (place : ℕ) → place ≤ length blocks → IsBegun blocks block.base place →
+    now ≡ insert blocks place block → now ≡ placed block blocks
+block_placed blocks now block place upto begun is = is ∙ sym (placed_at block blocks place upto begun)
+
+-- they are those of a memory, also where no memory was left for one more
+pub block_stays : (done : Bool) (blocks now : List Block) → IsMemory blocks → (block : Block) (align place : ℕ) → place ≤ length blocks →
+    IsBegun blocks block.base place → can_place blocks block.base (length block.bytes) align ≡ true →
+    now ≡ (if done then insert blocks place block else blocks) → IsMemory now
+block_stays true blocks now memory block align place upto begun free is =
+    subst IsMemory (sym (block_placed blocks now block place upto begun is)) (placed_stays block blocks align memory free)
+block_stays false blocks now memory block align place upto begun free is = subst IsMemory (sym is) memory
+
+-- the same of a block each byte of which is the same
 pub insert_placed : (blocks now : List Block) (at size fill place : ℕ) (bytes : List ℕ) → bytes ≡ replicate size fill → place ≤ length blocks →
     IsBegun blocks at place → now ≡ insert blocks place (record { base = at; bytes = bytes; writable = true }) → now ≡ placed (fresh at size fill) blocks
 insert_placed blocks now at size fill place bytes filled upto begun is =
-    is
-    ∙ ap (λ bs. insert blocks place (record { base = at; bytes = bs; writable = true })) filled
-    ∙ sym (placed_at (fresh at size fill) blocks place upto begun)
+    block_placed blocks now (fresh at size fill) place upto begun
+    (is ∙ ap (λ bs. insert blocks place (record { base = at; bytes = bs; writable = true })) filled)
 
--- they are those of a memory, also where no memory was left for one more
 pub insert_stays : (done : Bool) (blocks now : List Block) → IsMemory blocks → (at size align fill place : ℕ) (bytes : List ℕ) →
     bytes ≡ replicate size fill → place ≤ length blocks → IsBegun blocks at place → can_place blocks at size align ≡ true →
     now ≡ (if done then insert blocks place (record { base = at; bytes = bytes; writable = true }) else blocks) → IsMemory now

@@ -29,6 +29,13 @@ impl Bytes {
         Ok(Bytes { bytes })
     }
 
+    /// These bytes.
+    pub fn from_vec(bytes: Vec<u8>) -> Bytes
+        ensures { result ≡ bytes.items }
+    {
+        Bytes { bytes }
+    }
+
     /// The bytes in order.
     pub fn as_slice(&self) -> &[u8]
         ensures { result.now ≡ self.now }
@@ -41,6 +48,14 @@ impl Bytes {
         ensures { result ≡ length self.now }
     {
         self.bytes.len()
+    }
+
+    /// Writes bytes from a place on.
+    pub(crate) fn write(&mut self, from: usize, bytes: &[u8])
+        requires { from + length bytes.now ≤ length self.old }
+        ensures { self.new ≡ take from self.old ++ bytes.now ++ drop (from + length bytes.now) self.old }
+    {
+        self.bytes[from..from + bytes.len()].copy_from_slice(bytes);
     }
 
     /// Writes the lowest bytes of a number from a place on, the lowest first.

@@ -1,5 +1,5 @@
 //! The memory of a program.
-ghost use Rattle.std.specs.Prelude.{◌≡◌, ◌<◌, ◌≤◌, true, [], if◌then◌else◌, is_some, option_map, option_copied, IfNone, OnOk, OnErr, MatchResult, IsTrue};
+ghost use Rattle.std.specs.Prelude.{◌≡◌, ◌<◌, ◌≤◌, true, [], if◌then◌else◌, is_some, option_map, option_copied, IfNone, length, OnOk, OnErr, MatchResult, IsTrue};
 ghost use Rattle.std.specs.List.{list_any};
 ghost use Rattle.ir_mem.specs.Bytes.{to_little};
 ghost use Rattle.ir_mem.specs.Memory.{IsMemory, block_at, bytes_from, can_access, holds, loaded, stored, with_bytes};
@@ -96,6 +96,38 @@ impl Memory {
         }
     }
 
+    /// Places a block that has these bytes, and that a store may change or not. A memory that has no place for it, or that
+    /// gets no memory, is as it was.
+    pub fn place_bytes(
+        &mut self,
+        at: u64,
+        align: u64,
+        bytes: Vec<u8>,
+        writable: bool,
+    ) -> Result<(), PlaceEnd>
+        requires { 0 < align }
+        ensures cause { MatchResult result
+            (λ _. IsTrue (can_place self.old at (length bytes.items) align))
+            (IsNotPlaced self.old at (length bytes.items) align) }
+        ensures ok { OnOk result (self.new ≡ placed (record { base = at; bytes = bytes.items; writable = writable }) self.old) }
+        ensures err { OnErr result (self.new ≡ self.old) }
+    {
+        let bytes = Bytes::from_vec(bytes);
+        if !can_place(self.blocks.as_slice(), at, bytes.len() as u64, align) {
+            return Err(PlaceEnd::Taken { at });
+        }
+        let block = Block {
+            base: at,
+            bytes,
+            writable,
+        };
+        let place = begun(self.blocks.as_slice(), at);
+        match self.blocks.insert(place, block) {
+            Ok(()) => Ok(()),
+            Err(_) => Err(PlaceEnd::NoMemory),
+        }
+    }
+
     /// The bytes of a range that is not empty, where one live block holds it.
     pub fn bytes(&self, at: u64, size: u64) -> Option<&[u8]>
         requires { 0 < size }
@@ -128,6 +160,17 @@ impl Memory {
     {
         let place = holder(self.blocks.as_slice(), at, u64::from(size))?;
         put_number(&mut self.blocks[place], at, size, value)
+    }
+
+    /// Writes bytes, at least one, where one live block holds their range and is writable; any other range changes nothing.
+    pub fn write(&mut self, at: u64, bytes: &[u8]) -> Option<()>
+        requires { 0 < length bytes.now }
+        ensures found { is_some result ≡ can_access self.old at (length bytes.now) true }
+        ensures stored { self.new ≡ stored at bytes.now self.old }
+        ensures none { IfNone result (self.new ≡ self.old) }
+    {
+        let place = holder(self.blocks.as_slice(), at, bytes.len() as u64)?;
+        put_bytes(&mut self.blocks[place], at, bytes)
     }
 
     /// Takes the writable mark from the last placed block that begins at an address.
@@ -166,4 +209,19 @@ fn put_number(block: &mut Block, at: u64, size: u8, value: u64) -> Option<()>
     let from = (at - block.base) as usize;
     block.bytes.put(from, usize::from(size), value);
     Some(())
+}
+
+/// Writes bytes into a block that holds their range, if it is writable.
+fn put_bytes(block: &mut Block, at: u64, bytes: &[u8]) -> Option<()>
+    requires { holds at (length bytes.now) block.old ≡ true }
+    ensures found { is_some result ≡ block.old.writable }
+    ensures put { block.new ≡ (if block.old.writable then with_bytes at bytes.now block.old else block.old) }
+{
+    if block.writable {
+        let from = (at - block.base) as usize;
+        block.bytes.write(from, bytes);
+        Some(())
+    } else {
+        None
+    }
 }
