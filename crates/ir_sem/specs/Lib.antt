@@ -1,0 +1,16 @@
+pub mod Accesses
+pub mod Actions
+pub mod Addresses
+pub mod Configs
+pub mod Effects
+pub mod Elements
+pub mod Globals
+pub mod Instructions
+pub mod Intrinsics
+pub mod LeastRuns
+pub mod Locals
+pub mod Mains
+pub mod Operands
+pub mod Operations
+pub mod Runs
+pub mod Terminators

@@ -1,0 +1,7 @@
+//! What a module means (LangRef): values, the operations on them, memory, each step of a run and each way in which one is
+//! undefined. Definitions alone: the interpreter, the passes of the code generator and the claims about linked programs share them.
+#![tactic(auto)]
+
+mod value;
+
+pub use value::Value;
