@@ -1,18 +1,12 @@
 -- The function that a run begins with.
-use Rattle.std.specs.Prelude.{◌&&◌, ◌||◌, Bool, true, false, bytes_eq, codes, Option, Some, List, [], ◌∷◌}
-use Rattle.std.specs.List.{list_any}
+use Rattle.std.specs.Prelude.{◌&&◌, ◌||◌, Bool, true, false, find, is_some, Option, Some, List, [], ◌∷◌}
+use Rattle.std.specs.Option.{option_map_or}
 use Rattle.ir_check.specs.Hosts.{is_i32, takes_none}
 use Rattle.ir_syntax.specs.Types.{TextTree, ptr}
 use Rattle.ir_syntax.specs.declared.function.Function.{Function}
 use Rattle.ir_syntax.specs.declared.function.Param.{Param}
 use Rattle.ir_syntax.specs.declared.module.Module.{Module}
-use Rattle.cg_built.specs.Built.{function_name}
-use Rattle.cg_built.specs.Definitions.{has_body}
-use Rattle.cg_built.specs.Unbuilt.{is_external}
-
--- a definition that other modules see, by the name `main`
-abbrev pub is_main : Function → Bool
-is_main f = has_body f && is_external f.linkage && bytes_eq (function_name f) (codes "main")
+pub use Rattle.ir_sem.specs.Mains.{is_main}
 
 abbrev pub is_ptr : Option TextTree → Bool
 is_ptr (Some ptr) = true
@@ -27,9 +21,14 @@ takes_words other = false
 abbrev pub fits_main : Function → Bool
 fits_main f = is_i32 f.result && (takes_none f.params || takes_words f.params)
 
-abbrev pub defines_main : Module → Bool
-defines_main m = list_any is_main m.functions
+-- the first `main` that is defined and that other modules see
+abbrev pub the_main : Module → Option Function
+the_main m = find is_main m.functions
 
--- a `main` is defined, of a type that a run can call
+-- there is one
+abbrev pub defines_main : Module → Bool
+defines_main m = is_some (the_main m)
+
+-- there is one, of a type that a run can call
 abbrev pub has_main : Module → Bool
-has_main m = list_any (λ f. is_main f && fits_main f) m.functions
+has_main m = option_map_or fits_main (the_main m) false

@@ -8,8 +8,6 @@ use Rattle.ir_syntax.specs.Types.{TextTree, int}
 use Rattle.ir_syntax.specs.declared.block.Block.{Block}
 use Rattle.ir_syntax.specs.declared.function.Function.{Function}
 use Rattle.ir_syntax.specs.declared.function.Param.{Param}
-use Rattle.ir_syntax.specs.declared.linkage.Linkage.{Linkage}
-use Rattle.ir_syntax.specs.declared.linkage.Linkage.TheVariants.{External}
 use Rattle.ir_syntax.specs.declared.linkage.Visibility.{Visibility}
 use Rattle.ir_syntax.specs.declared.linkage.Visibility.TheVariants.{Default}
 use Rattle.ir_syntax.specs.declared.literal.Literal.{Literal}
@@ -20,10 +18,7 @@ use Rattle.ir_syntax.specs.declared.term.Term.{Term}
 use Rattle.ir_syntax.specs.declared.term.Term.TheVariants.{Ret}
 use Rattle.rv_isa.specs.Symbol.{is_bare}
 use Rattle.cg_built.specs.Params.{place_of}
-
-abbrev pub is_external : Linkage → Bool
-is_external External = true
-is_external other = false
+pub use Rattle.ir_sem.specs.Mains.{is_external}
 
 abbrev pub is_default : Visibility → Bool
 is_default Default = true

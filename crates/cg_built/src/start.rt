@@ -1,7 +1,7 @@
 //! The function that a run begins with.
-ghost use Rattle.std.specs.Prelude.{◌≡◌, ◌||◌};
+ghost use Rattle.std.specs.Prelude.{◌≡◌, ◌||◌, option_copied};
 ghost use Rattle.ir_check.specs.Hosts.{takes_none};
-ghost use Rattle.cg_built.specs.Main.{defines_main, fits_main, has_main, is_main, is_ptr, takes_words};
+ghost use Rattle.cg_built.specs.Main.{defines_main, fits_main, has_main, is_main, is_ptr, takes_words, the_main};
 
 use crate::linkage::is_external;
 use ir_check::is_i32;
@@ -12,20 +12,26 @@ use ir_syntax::{Function, Module, Param, TyText, TypeTree};
 pub fn defines_main(m: &Module) -> bool
     ensures { result ≡ defines_main m.now }
 {
-    m.functions
-        .as_slice()
-        .iter()
-        .any(|function| is_main(function))
+    the_main(m).is_some()
 }
 
 /// Whether such a `main` is defined, of type `i32 ()` or `i32 (i32, ptr)`.
 pub fn has_main(m: &Module) -> bool
     ensures { result ≡ has_main m.now }
 {
+    match the_main(m) {
+        Some(function) => fits(function),
+        None => false,
+    }
+}
+
+fn the_main(m: &Module) -> Option<&Function>
+    ensures { option_copied result ≡ the_main m.now }
+{
     m.functions
         .as_slice()
         .iter()
-        .any(|function| is_main(function) & fits(function))
+        .find(|function| is_main(function))
 }
 
 fn is_main(function: &Function) -> bool

@@ -1,5 +1,5 @@
 -- The functions of a module of the built set as items.
-use Rattle.std.proofs.Common.{◌≡◌, ◌<◌, ◌+◌, ◌++◌, ◌∷◌, [], ℕ, List, All, filter, get_or, take, length, map, inl, inr, refl, ap, sym, subst, ◌∙◌, append_assoc}
+use Rattle.std.proofs.Common.{◌≡◌, ◌<◌, ◌+◌, ◌++◌, ◌∷◌, [], ℕ, List, All, filter, get_or, take, length, map, refl, ap, sym, subst, ◌∙◌, arith, append_assoc}
 use Rattle.std.specs.Prelude.{bytes_eq}
 use Rattle.std.specs.List.{IsDistinct, AllByRecursion as ByRecursion}
 use Rattle.std.proofs.lemmas.List.{map-append, take_more}
@@ -7,21 +7,21 @@ use Rattle.std.proofs.lemmas.List.Elements.{All-cons, All-nil, filter-append, re
 use Rattle.std.proofs.lemmas.Simd.{map-map}
 use Rattle.asm_print.specs.Items.{AreItems, IsItem, Item, items_text}
 use Rattle.asm_print.proofs.Written.{items_text-append}
-use Rattle.asm_line.specs.Statements.{IsRead}
+use Rattle.asm_inst.specs.Grammar.{IsRead}
 use Rattle.ir_syntax.specs.declared.function.Function.{Function}
 use Rattle.ir_syntax.specs.declared.module.Module.{Module}
 use Rattle.cg_built.specs.Built.{IsBuiltFunction, function_name}
 use Rattle.cg_built.specs.Definitions.{defined_functions, has_body}
 use Rattle.cg_built.proofs.Programs.{IsProgram}
 use Rattle.cg_part.specs.Text.{item_of, items_of}
-use Rattle.cg_part.proofs.InstructionLemmas.{IsOfUsed, code_holds}
+use Rattle.cg_part.proofs.InstructionLemmas.{IsOfUsed, addi_formed, code_holds, move_formed, return_formed}
 use Rattle.cg_part.proofs.NameLemmas.{name_is_symbol}
 
 used_read : IsOfUsed IsRead
 used_read = record {
-  load = λ rd imm low held. inl (rd, imm, low, held, refl);
-  copy = λ rd rs low above low_rs. inr (inl (rd, rs, low, above, low_rs, refl));
-  back = inr (inr refl);
+  load = λ rd imm low held. record { inst = addi_formed rd 0 imm low (omega arith) held; in_text = refl; ranged = held };
+  copy = λ rd rs low above low_rs. record { inst = move_formed rd rs low low_rs; in_text = refl; ranged = (omega arith, omega arith) };
+  back = record { inst = return_formed; in_text = refl; ranged = (omega arith, omega arith) };
 }
 
 item_formed : (f : Function) → IsBuiltFunction f → IsItem (item_of f)

@@ -11,7 +11,7 @@ use Rattle.cg_part.specs.Code.{function_code}
 use Rattle.cg_part.specs.Text.{item_of}
 use Rattle.cg_built.specs.Definitions.{defined_functions, has_body}
 use Rattle.cg_part.specs.Meaning.{IsMain}
-use Rattle.cg_part.proofs.Mains.{main_has_body}
+use Rattle.cg_part.proofs.Mains.{main_among, main_has_body}
 use Rattle.cg_part.proofs.Objects.{part_code}
 
 -- a list around an element
@@ -38,7 +38,7 @@ among_passing test xs x among passes =
 
 -- so `main` is among the functions that are defined
 pub main_defined : (m : Module) (f : Function) → IsMain m f → Contains (defined_functions m) f
-main_defined m f main = among_passing has_body m.functions f main.among (main_has_body m f main)
+main_defined m f main = among_passing has_body m.functions f (main_among m f main) (main_has_body m f main)
 
 -- what holds of each element holds of one among them
 pub at_middle : {A B : Type 0} (P : B → Type 0) (g : A → B) (prefix suffix : List A) (x : A) →

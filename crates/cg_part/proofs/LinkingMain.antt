@@ -1,9 +1,10 @@
 -- The code of a `main`, which returns a constant.
-use Rattle.std.proofs.Common.{◌≡◌, ◌++◌, ◌∷◌, [], ℤ, List, Option, Some, None, refl, ap, ap₂, sym, ◌∙◌, subst}
-use Rattle.std.specs.Prelude.{unwrap_or, option_map}
+use Rattle.std.proofs.Common.{◌≡◌, ◌++◌, ◌∷◌, [], ℕ, List, Option, Some, None, refl, ap, ap₂, sym, ◌∙◌, subst}
+use Rattle.std.specs.Prelude.{unwrap_or}
 use Rattle.ir_syntax.specs.Literals.{literal_value}
-use Rattle.ir_syntax.specs.Types.{int}
+use Rattle.ir_syntax.specs.Types.{TextTree, int}
 use Rattle.ir_syntax.specs.declared.block.Block.{Block}
+use Rattle.ir_syntax.specs.declared.literal.Literal.{Literal}
 use Rattle.ir_syntax.specs.declared.operand.Operand.TheVariants.{Local, Int}
 use Rattle.ir_syntax.specs.declared.term.Term.{Term}
 use Rattle.ir_syntax.specs.declared.term.Term.TheVariants.{Ret}
@@ -13,35 +14,38 @@ use Rattle.rv_isa.specs.Encoding.{IsSigned12}
 use Rattle.cg_built.specs.Built.{IsBuiltFunction, IsBuiltBlock, IsBuiltBody, IsBuiltTerm, IsTypedBody, GivesType}
 use Rattle.cg_part.specs.Code.{value_code, term_code, body_code, function_code}
 use Rattle.rv_isa.specs.Instructions.{ret}
-use Rattle.cg_part.specs.Meaning.{IsMain, Returns, term_value, value_at, wrapped}
+use Rattle.cg_part.specs.Meaning.{IsMain}
 use Rattle.cg_part.proofs.Mains.{main_params, main_result}
 
--- a function whose code loads a constant and returns, and that returns the constant as an i32
+-- a function of one block that returns a constant as an i32, and whose code loads it and returns
 pub record ReturnsConstant (f : Function) : Type 0 where
-  pub value : ℤ
-  pub signed : IsSigned12 value
-  pub code : function_code f ≡ value_code value ++ ret ∷ []
-  pub returns : Returns f [] (wrapped 32 value)
+  pub block : Block
+  pub line : ℕ
+  pub literal : Literal
+  pub body : f.blocks ≡ Some (block ∷ [])
+  pub instrs : block.instrs ≡ []
+  pub term : block.term ≡ Ret line (int 32) (Int literal)
+  pub signed : IsSigned12 (literal_value literal)
+  pub code : function_code f ≡ value_code (literal_value literal) ++ ret ∷ []
+
+-- two types of a result that are one
+same_type : (a b : TextTree) → Some a ≡ Some b → b ≡ a
+same_type a b typed = ap (λ o. unwrap_or o a) (sym typed)
 
 module _ (f : Function) (none : f.params ≡ []) where
   by_term : (block : Block) (term : Term) → f.blocks ≡ Some (block ∷ []) → IsBuiltBlock [] block → block.term ≡ term →
       IsBuiltTerm [] term → GivesType (Some (int 32)) term → ReturnsConstant f
   by_term block (Ret line ty (Local used)) body plain is built typed = absurd (cc)
-  by_term block (Ret line ty (Int literal)) body plain is built typed =
-      let value : ℤ = literal_value literal in
-      let same : Some (wrapped 32 value) ≡ value_at ty value = ap (λ o. unwrap_or (option_map (λ t. value_at t value) o) None) typed in
-      record {
-        value = value;
-        signed = built;
-        code = ap₂ body_code none body ∙ ap (term_code []) is;
-        returns = record {
-          block = block;
-          body = body;
-          phis = plain.phis;
-          instrs = plain.instrs;
-          returned = ap₂ (λ params term. term_value params [] term) none is ∙ sym same;
-        };
-      }
+  by_term block (Ret line ty (Int literal)) body plain is built typed = record {
+    block = block;
+    line = line;
+    literal = literal;
+    body = body;
+    instrs = plain.instrs;
+    term = is ∙ ap (λ t. Ret line t (Int literal)) (same_type (int 32) ty typed);
+    signed = built;
+    code = ap₂ body_code none body ∙ ap (term_code []) is;
+  }
   by_term block (Ret line ty other) body plain is built typed = absurd built
   by_term block other body plain is built typed = absurd built
 

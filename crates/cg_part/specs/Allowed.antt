@@ -16,7 +16,8 @@ use Rattle.rv_mach.specs.declared.stop.Stop.{Stop}
 use Rattle.rv_mach.specs.declared.stop.Stop.TheVariants.{Exited, Trapped, StackOut, Running}
 use Rattle.rv_mach.specs.declared.stop.TrapKind.{TrapKind}
 use Rattle.rv_mach.specs.declared.stop.TrapKind.TheVariants as trap
-use Rattle.cg_part.specs.Meaning.{Config, End, going, ended, trapped, undefined, IsMain, IsRun}
+use Rattle.cg_part.specs.Meaning.{IsMain, loaded_at}
+use Rattle.ir_sem.specs.Runs.{IsRun, Run, State, ended, going, trapped, undefined}
 
 abbrev pub IsPrefix : List ℕ → List ℕ → Type 0
 IsPrefix prefix bytes = (rest : List ℕ) × (bytes ≡ prefix ++ rest)
@@ -31,9 +32,9 @@ IsAbnormalEnd trap.Break = ⊥
 
 -- A run without an end shows all its output, and has begun a segment for every `count` steps taken, where
 -- `count` is the number of instructions in the image.
-pub record Progresses (count steps : ℕ) (config : Config) (output : List ℕ) : Type 0 where
-  pub output_is : config.output ≡ output
-  pub progress : steps / count ≤ config.begun
+pub record Progresses (count steps : ℕ) (run : Run) (output : List ℕ) : Type 0 where
+  pub output_is : run.output ≡ output
+  pub progress : steps / count ≤ run.begun
 
 -- the step at which a machine stopped
 pub record StopsAt (image input : List ℕ) (steps : ℕ) : Type 0 where
@@ -42,30 +43,29 @@ pub record StopsAt (image input : List ℕ) (steps : ℕ) : Type 0 where
   pub runs : (run_of input before (start image)).machine.stop ≡ Running
   pub stopped : (run_of input steps (start image)).machine.stop ≢ Running
 
--- What a machine with this stop and output may show, by the end of the run. Undefined behaviour allows any more
+-- What a machine with this stop and output may show, by the state of the run. Undefined behaviour allows any more
 -- output than the run had put. No other pair is allowed.
-abbrev pub Shows : Image → List ℕ → ℕ → Stop → List ℕ → End → Config → Type 0
-Shows image input n stop output undefined config = IsPrefix config.output output
-Shows image input n (Exited code) output (ended value) config = (code ≡ value) × (config.output ≡ output)
-Shows image input n (Trapped kind) output trapped config = IsAbnormalEnd kind × (config.output ≡ output)
-Shows image input n Running output going config = Progresses image.instructions n config output
-Shows image input n StackOut output going config =
-    (steps : ℕ) × (steps ≤ n) × StopsAt image.bytes input steps × Progresses image.instructions steps config output
-Shows image input n (Exited code) output going config = ⊥
-Shows image input n (Exited code) output trapped config = ⊥
-Shows image input n (Trapped kind) output going config = ⊥
-Shows image input n (Trapped kind) output (ended value) config = ⊥
-Shows image input n Running output (ended value) config = ⊥
-Shows image input n Running output trapped config = ⊥
-Shows image input n StackOut output (ended value) config = ⊥
-Shows image input n StackOut output trapped config = ⊥
+abbrev pub Shows : Image → List ℕ → ℕ → Stop → List ℕ → State → Run → Type 0
+Shows image input n stop output undefined run = IsPrefix run.output output
+Shows image input n (Exited code) output (ended value) run = (code ≡ value) × (run.output ≡ output)
+Shows image input n (Trapped kind) output trapped run = IsAbnormalEnd kind × (run.output ≡ output)
+Shows image input n Running output (going config) run = Progresses image.instructions n run output
+Shows image input n StackOut output (going config) run =
+    (steps : ℕ) × (steps ≤ n) × StopsAt image.bytes input steps × Progresses image.instructions steps run output
+Shows image input n (Exited code) output (going config) run = ⊥
+Shows image input n (Exited code) output trapped run = ⊥
+Shows image input n (Trapped kind) output (going config) run = ⊥
+Shows image input n (Trapped kind) output (ended value) run = ⊥
+Shows image input n Running output (ended value) run = ⊥
+Shows image input n Running output trapped run = ⊥
+Shows image input n StackOut output (ended value) run = ⊥
+Shows image input n StackOut output trapped run = ⊥
 
 -- n steps of an image, on an input, show what some run of the module at the image's addresses allows
 pub record Allowed (m : Module) (image : Image) (input : List ℕ) (n : ℕ) : Type 0 where
-  pub steps : ℕ
-  pub config : Config
-  pub run : IsRun m image.addresses input steps config
-  pub shows : Shows image input n (machine_run image.bytes input n).stop (machine_run image.bytes input n).output config.end config
+  pub run : Run
+  pub is_run : IsRun (loaded_at m image.addresses) input run
+  pub shows : Shows image input n (machine_run image.bytes input n).stop (machine_run image.bytes input n).output run.state run
 
 -- None of the refusals of a run holds: the module has a `main` of a type that a run can call, each need of its
 -- objects and of the runtime has a definition, and their image is not too large.

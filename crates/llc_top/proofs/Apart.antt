@@ -1,9 +1,8 @@
 -- No text is both accepted and refused, and what is written is what the module allows.
-use Rattle.std.proofs.Common.{◌≡◌, ◌+◌, ◌≤◌, ℕ, Bool, true, false, Option, Some, None, List, [], ◌∷◌, length, inl, inr, refl, sym, ap, ◌∙◌, subst, arith, ◌&&◌, ◌||◌}
-use Rattle.std.specs.List.{list_any}
+use Rattle.std.proofs.Common.{◌≡◌, ◌+◌, ◌≤◌, ℕ, Bool, true, false, Option, Some, None, List, [], ◌∷◌, length, inl, inr, refl, sym, ap, ◌∙◌, subst, arith}
+use Rattle.std.specs.Prelude.{is_some}
+use Rattle.std.specs.Option.{option_map_or}
 use Rattle.std.specs.Io.KnownBytes.{Consumes}
-use Rattle.std.proofs.Math.Logic.{⊎_elim}
-use Rattle.std.proofs.lemmas.Bool.{and_parts, or_cases}
 use Rattle.std.proofs.lemmas.List.{length-append}
 use Rattle.cg_io.specs.Told.{GivesAll, TakesExactly}
 use Rattle.cg_io.proofs.ToldLemmas.{GivesAll-told}
@@ -23,7 +22,7 @@ use Rattle.ir_syntax.specs.declared.refusal.Refusal.{Refusal}
 use Rattle.obj_link.specs.declared.image.Image.{Image}
 use Rattle.llc_top.specs.Exact.{IsExact, Serves, Compiled, Ran}
 use Rattle.llc_top.specs.Headline.{Does, Headline}
-use Rattle.cg_built.specs.Main.{defines_main, has_main, is_main, fits_main}
+use Rattle.cg_built.specs.Main.{defines_main, has_main, fits_main, the_main}
 use Rattle.llc_top.specs.Outcome.{Outcome, words_refused, read_failed, refuses, compiles, runs, status_of, out_due, err_due, HasReason, Answers, TakesModule, TakesProgram, TakesRefused}
 use Rattle.llc_top.specs.Refusals.{IsAccepted, IsCheckedRefusal, IsFirstRefusal, IsModuleRefusal, IsRunRefusal, text_limit}
 use Rattle.llc_top.specs.Streams.{SourceChange, SinkChange, TellsAll}
@@ -47,18 +46,10 @@ too_long left left' bytes n told takes =
 given : (left left' : Option (List ℕ)) (bytes all : List ℕ) → left ≡ Some bytes → GivesAll left left' all → all ≡ bytes
 given left left' bytes all told gave = GivesAll-told bytes left' all (subst (λ l. GivesAll l left' all) told gave)
 
-or_later : (a b : Bool) → b ≡ true → (a || b) ≡ true
-or_later true b later = refl
-or_later false b later = later
-
 -- a module that has a main defines one
-main_defined : (functions : List Function) → list_any (λ f. is_main f && fits_main f) functions ≡ true → list_any is_main functions ≡ true
-main_defined [] has = has
-main_defined (f ∷ functions) has =
-    ⊎_elim
-    (λ here. ap (λ t. t || list_any is_main functions) (and_parts (is_main f) (fits_main f) here).0)
-    (λ later. or_later (is_main f) (list_any is_main functions) (main_defined functions later))
-    (or_cases (is_main f && fits_main f) (list_any (λ g. is_main g && fits_main g) functions) has)
+main_defined : (found : Option Function) → option_map_or fits_main found false ≡ true → is_some found ≡ true
+main_defined None has = absurd (cc)
+main_defined (Some f) has = refl
 
 -- to run a module it has a main, and its text links
 serves_run : (mode : Mode) (m : Module) → mode ≡ modes.Run → Serves mode m → Serves modes.Run m
@@ -72,7 +63,7 @@ true_false e = cc
 
 -- a module that can be run is not refused to be
 run_apart : (m : Module) (e : Refusal) → Serves modes.Run m → IsRunRefusal m e → ⊥
-run_apart m e (has, image, linked) (inl (inl (none, is))) = true_false (same_value (defines_main m) true false (main_defined m.functions has) none)
+run_apart m e (has, image, linked) (inl (inl (none, is))) = true_false (same_value (defines_main m) true false (main_defined (the_main m) has) none)
 run_apart m e (has, image, linked) (inl (inr (defined, none, is))) = true_false (same_value (has_main m) true false has none)
 run_apart m e (has, image, linked) (inr (also, (why, unlinked, some, is))) = some (image_excludes (part_text m ∷ []) image why linked unlinked)
 
