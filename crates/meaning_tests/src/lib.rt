@@ -6,3 +6,5 @@
 mod memories;
 #[cfg(test)]
 mod script;
+#[cfg(test)]
+mod variables;
