@@ -1,3 +1,4 @@
 pub mod KeptLemmas
 pub mod SearchLemmas
 pub mod SeenLemmas
+pub mod WholeLemmas

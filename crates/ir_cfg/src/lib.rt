@@ -7,5 +7,5 @@ mod sizes;
 mod successors;
 
 pub use reached::{is_marked, label_places, reachable_marks, see, see_all, unmarked};
-pub use sizes::{function_sizes, total_size};
+pub use sizes::{function_sizes, total_size, whole_size};
 pub use successors::{push_place, successors_of};

@@ -52,7 +52,7 @@ pub fn label_places<'a>(
 ) -> Result<NameMap<'a, usize>, AllocError>
     ensures { IfOk result (λ places. (name : Name) → value_of places name ≡ label_place blocks.now name) }
 {
-    let mut places = NameMap::new(alloc);
+    let mut places = NameMap::with_room(alloc, blocks.len())?;
     for (place, block) in blocks.iter().enumerate() {
         places.add(&block.label, place)?;
     }

@@ -2,7 +2,7 @@
 ghost use Rattle.std.specs.Prelude.{◌≡◌, IfOk, List, if◌then◌else◌, map, nat_lt};
 ghost use Rattle.std.specs.List.{list_any, sum, sum_by};
 ghost use Rattle.ir_cfg.specs.Capped.{capped};
-ghost use Rattle.ir_cfg.specs.Sizes.{block_size, function_size};
+ghost use Rattle.ir_cfg.specs.Sizes.{block_size, function_size, whole_size};
 ghost use Rattle.ir_cfg.specs.Reached.{reachable_blocks};
 
 use crate::reached::{is_marked, reachable_marks};
@@ -52,6 +52,27 @@ fn block_size(block: &Block) -> usize
     let phis = block.phis.as_slice().len();
     let instrs = block.instrs.as_slice().len();
     phis.saturating_add(instrs).saturating_add(1)
+}
+
+/// How many instructions, phis and terminators a function has in all its blocks, also those that no path reaches. One of
+/// more than 2^64 - 1 counts as that many.
+pub fn whole_size(function: &Function) -> usize
+    ensures { result ≡ capped (whole_size function.now) }
+{
+    match &function.blocks {
+        Some(blocks) => blocks_size(blocks.as_slice()),
+        None => 0,
+    }
+}
+
+fn blocks_size(blocks: &[Block]) -> usize
+    ensures { result ≡ capped (sum_by block_size blocks.now) }
+{
+    let mut size = 0usize;
+    for block in blocks {
+        size = size.saturating_add(block_size(block));
+    }
+    size
 }
 
 /// The sum of sizes, at most 2^64 - 1.

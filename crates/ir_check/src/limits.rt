@@ -1,13 +1,13 @@
 //! The limits on what a module has.
-ghost use Rattle.std.specs.Prelude.{◌≡◌, IfOk, None, Option, Some, if◌then◌else◌, length, nat_lt};
-ghost use Rattle.std.specs.List.{filter, list_any, sum_by};
+ghost use Rattle.std.specs.Prelude.{◌≡◌, IfOk, IsTrue, None, length, nat_le, nat_lt};
+ghost use Rattle.std.specs.List.{filter, list_all, list_any, sum_by};
 ghost use Rattle.ir_syntax.specs.Definitions.{defined_functions, has_body};
-ghost use Rattle.ir_cfg.specs.Sizes.{function_size};
-ghost use Rattle.ir_check.specs.Limits.{exceeded_limit};
+ghost use Rattle.ir_cfg.specs.Capped.{capped};
+ghost use Rattle.ir_cfg.specs.Sizes.{whole_size};
+ghost use Rattle.ir_check.specs.Limits.{exceeded_limit, exceeded_size};
 ghost use Rattle.ir_mentions.specs.Mentions.{mentioned_places};
-ghost use Rattle.ir_syntax.specs.declared.refusal.Count.TheVariants.{Instructions, OneFunction};
 
-use ir_cfg::{function_sizes, total_size};
+use ir_cfg::{function_sizes, total_size, whole_size};
 use ir_mentions::mentioned_places;
 use ir_syntax::{Count, Function, Module};
 use std::alloc::{AllocError, Global};
@@ -62,10 +62,51 @@ fn count_defined(functions: &[Function]) -> usize
 
 /// Whether one function is too long, or all of them are.
 fn exceeded_size(alloc: Global, functions: &[Function]) -> Result<Option<Count>, AllocError>
-    ensures { IfOk result (λ count. count ≡
-        (if list_any (λ f. nat_lt 65536 (function_size f)) functions.now then Some OneFunction
-        else if nat_lt 262144 (sum_by function_size functions.now) then Some Instructions
-        else None)) }
+    ensures { IfOk result (λ count. count ≡ exceeded_size functions.now) }
+{
+    if are_small(functions) {
+        return Ok(None);
+    }
+    exceeded_reachable_size(alloc, functions)
+}
+
+/// Whether no size is exceeded even if blocks count that no path reaches. To tell those takes a search of each function,
+/// and few modules need it.
+#[tactic(auto, using(crate::proofs::SizeLemmas::small_sizes))]
+fn are_small(functions: &[Function]) -> bool
+    ensures { IsTrue result → exceeded_size functions.now ≡ None }
+{
+    are_short(functions) & (whole_sizes(functions) <= TOTAL_LIMIT)
+}
+
+fn are_short(functions: &[Function]) -> bool
+    ensures { result ≡ list_all (λ f. nat_le (whole_size f) 65536) functions.now }
+{
+    functions.iter().all(|function| is_short(function))
+}
+
+fn is_short(function: &Function) -> bool
+    ensures { result ≡ nat_le (whole_size function.now) 65536 }
+{
+    whole_size(function) <= SIZE_LIMIT
+}
+
+fn whole_sizes(functions: &[Function]) -> usize
+    ensures { result ≡ capped (sum_by whole_size functions.now) }
+{
+    let mut total = 0usize;
+    for function in functions {
+        total = total.saturating_add(whole_size(function));
+    }
+    total
+}
+
+/// The same by the blocks that some path reaches.
+fn exceeded_reachable_size(
+    alloc: Global,
+    functions: &[Function],
+) -> Result<Option<Count>, AllocError>
+    ensures { IfOk result (λ count. count ≡ exceeded_size functions.now) }
 {
     let sizes = function_sizes(alloc, functions)?;
     if is_any_above(sizes.as_slice()) {

@@ -12,6 +12,7 @@ mod range;
 
 pub use gep_lines::push_gep_lines;
 pub use index::{GepIndex, literal_word};
-pub use offset::gep_offset;
+pub use offset::{field_begin, gep_offset};
 pub use operand_lines::{OperandRule, push_operand_lines};
+pub use parts::part_of;
 pub use range::{is_in_range, parts_in_range};

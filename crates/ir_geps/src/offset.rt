@@ -73,14 +73,16 @@ fn values_over(types: &NamedTypes<'_>, ty: &TypeTree, literal: &TypedLiteral) ->
     Some(word.wrapping_mul(rounded(layout.size, layout.align)))
 }
 
-/// Where the field of a struct at a place begins.
-fn field_begin(
+/// Where the field of a struct at a place begins, the first of its fields at 0; none where there is no such field, or one up to it
+/// has no size.
+pub fn field_begin(
     types: &NamedTypes<'_>,
     packed: bool,
     fields: &TypeTreeList,
     place: u32,
 ) -> Option<u64>
-    ensures { result ≡ in_64_bits (field_begin types.now packed 0 (trees_in fields.now) place) }
+    ensures exact { result ≡ field_begin types.now packed 0 (trees_in fields.now) place }
+    ensures value { result ≡ in_64_bits (field_begin types.now packed 0 (trees_in fields.now) place) }
 {
     let mut at = 0u64;
     let mut rest = fields;

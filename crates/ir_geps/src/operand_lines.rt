@@ -45,7 +45,8 @@ pub fn push_operand_lines<R: OperandRule>(
     ensures { OnOk result (lines.new.items ≡ lines.old.items ++ operand_lines (R.op_breaks rule.now) (R.breaks rule.now) m.now) }
 {
     push_globals(alloc, rule, m.globals.as_slice(), lines)?;
-    push_functions(alloc, rule, m.functions.as_slice(), lines)
+    let mut sites = Sites::new(alloc);
+    push_functions(rule, m.functions.as_slice(), &mut sites, lines)
 }
 
 fn push_globals<R: OperandRule>(
@@ -76,102 +77,102 @@ fn push_global<R: OperandRule>(
     push_line_if(lines, fault, global.line)
 }
 
-fn push_functions<R: OperandRule>(
-    alloc: Global,
+fn push_functions<'a, R: OperandRule>(
     rule: &R,
-    functions: &[Function],
+    functions: &'a [Function],
+    sites: &mut Sites<'a>,
     lines: &mut Vec<u32>,
 ) -> Result<(), AllocError>
     ensures { OnOk result (lines.new.items ≡ lines.old.items ++ flat_map (function_lines (R.op_breaks rule.now) (R.breaks rule.now)) functions.now) }
 {
     for function in functions {
-        push_body(alloc, rule, &function.blocks, lines)?;
+        push_body(rule, &function.blocks, sites, lines)?;
     }
     Ok(())
 }
 
-fn push_body<R: OperandRule>(
-    alloc: Global,
+fn push_body<'a, R: OperandRule>(
     rule: &R,
-    blocks: &Option<Blocks>,
+    blocks: &'a Option<Blocks>,
+    sites: &mut Sites<'a>,
     lines: &mut Vec<u32>,
 ) -> Result<(), AllocError>
     ensures { OnOk result (lines.new.items ≡ lines.old.items ++ body_lines (R.op_breaks rule.now) (R.breaks rule.now) blocks.now) }
 {
     match blocks {
-        Some(blocks) => push_blocks(alloc, rule, blocks.as_slice(), lines),
+        Some(blocks) => push_blocks(rule, blocks.as_slice(), sites, lines),
         None => Ok(()),
     }
 }
 
-fn push_blocks<R: OperandRule>(
-    alloc: Global,
+fn push_blocks<'a, R: OperandRule>(
     rule: &R,
-    blocks: &[Block],
+    blocks: &'a [Block],
+    sites: &mut Sites<'a>,
     lines: &mut Vec<u32>,
 ) -> Result<(), AllocError>
     ensures { OnOk result (lines.new.items ≡ lines.old.items ++ flat_map (block_lines (R.op_breaks rule.now) (R.breaks rule.now)) blocks.now) }
 {
     for block in blocks {
-        push_block(alloc, rule, block, lines)?;
+        push_block(rule, block, sites, lines)?;
     }
     Ok(())
 }
 
-fn push_block<R: OperandRule>(
-    alloc: Global,
+fn push_block<'a, R: OperandRule>(
     rule: &R,
-    block: &Block,
+    block: &'a Block,
+    sites: &mut Sites<'a>,
     lines: &mut Vec<u32>,
 ) -> Result<(), AllocError>
     ensures { OnOk result (lines.new.items ≡ lines.old.items ++ block_lines (R.op_breaks rule.now) (R.breaks rule.now) block.now) }
 {
-    push_phis(alloc, rule, block.phis.as_slice(), lines)?;
-    push_instrs(alloc, rule, block.instrs.as_slice(), lines)?;
-    let fault = is_broken_in(alloc, rule, &block.term)?;
+    push_phis(rule, block.phis.as_slice(), sites, lines)?;
+    push_instrs(rule, block.instrs.as_slice(), sites, lines)?;
+    let fault = is_broken_in(rule, &block.term, sites)?;
     push_line_if(lines, fault, block.term.line())
 }
 
-fn push_phis<R: OperandRule>(
-    alloc: Global,
+fn push_phis<'a, R: OperandRule>(
     rule: &R,
-    phis: &[Phi],
+    phis: &'a [Phi],
+    sites: &mut Sites<'a>,
     lines: &mut Vec<u32>,
 ) -> Result<(), AllocError>
     ensures { OnOk result (lines.new.items ≡ lines.old.items ++ flat_map (phi_lines (R.breaks rule.now)) phis.now) }
 {
     for phi in phis {
-        let fault = is_broken_in(alloc, rule, phi)?;
+        let fault = is_broken_in(rule, phi, sites)?;
         push_line_if(lines, fault, phi.line)?;
     }
     Ok(())
 }
 
-fn push_instrs<R: OperandRule>(
-    alloc: Global,
+fn push_instrs<'a, R: OperandRule>(
     rule: &R,
-    instrs: &[Instr],
+    instrs: &'a [Instr],
+    sites: &mut Sites<'a>,
     lines: &mut Vec<u32>,
 ) -> Result<(), AllocError>
     ensures { OnOk result (lines.new.items ≡ lines.old.items ++ flat_map (instr_lines (R.op_breaks rule.now) (R.breaks rule.now)) instrs.now) }
 {
     for instr in instrs {
-        let fault = is_broken_in(alloc, rule, instr)?;
+        let fault = is_broken_in(rule, instr, sites)?;
         push_line_if(lines, rule.op_breaks(&instr.op) | fault, instr.line)?;
     }
     Ok(())
 }
 
-/// Whether one of the operands of this breaks the rule.
+/// Whether one of the operands of this breaks the rule. What `sites` has before does not matter: its memory is used.
 fn is_broken_in<'a, R: OperandRule, T: Walk<'a, Sites<'a>>>(
-    alloc: Global,
     rule: &R,
     item: &'a T,
+    sites: &mut Sites<'a>,
 ) -> Result<bool, AllocError>
     ensures { IfOk result (λ broken. broken ≡ any_breaks (R.breaks rule.now) (T.parts item.now)) }
 {
-    let mut sites = Sites::new(alloc);
-    item.walk(&mut sites)?;
+    sites.clear();
+    item.walk(sites)?;
     Ok(is_any_broken(rule, sites.sites.as_slice()))
 }
 

@@ -43,6 +43,13 @@ impl<'a> Sites<'a> {
             sites: Vec::new(alloc),
         }
     }
+
+    /// Drops all operands, and keeps their memory.
+    pub(crate) fn clear(&mut self)
+        ensures { self.new.sites.items ≡ [] }
+    {
+        self.sites.clear();
+    }
 }
 
 impl<'a> Visitor<'a> for Sites<'a> {

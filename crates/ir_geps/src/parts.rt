@@ -38,8 +38,8 @@ fn part_in<'a, I: GepIndex>(ty: &'a TypeTree, index: &I) -> Option<&'a TypeTree>
     }
 }
 
-/// The part of a type that an index goes into.
-pub(crate) fn part_of<'a, I: GepIndex>(
+/// The part of a type that an index goes into: an element of an array, or the field of a struct that it names.
+pub fn part_of<'a, I: GepIndex>(
     types: &NamedTypes<'a>,
     ty: &'a TypeTree,
     index: &I,

@@ -3,6 +3,7 @@ ghost use Rattle.std.specs.Prelude.{◌≡◌, ◌≤◌, IfOk, length, take};
 ghost use Rattle.ir_ident.specs.Names.{same_name};
 ghost use Rattle.ir_ident.specs.Spellings.{IsSpelling, spelled};
 
+use crate::name_key::same_bytes;
 use crate::number::ItemNumber;
 use std::alloc::{AllocError, Global};
 use std::marker::Model;
@@ -109,7 +110,7 @@ impl Name {
         ensures { result ≡ same_name self.now other.now }
     {
         match (self, other) {
-            (Name::Named(a), Name::Named(b)) => a.as_bytes() == b.as_bytes(),
+            (Name::Named(a), Name::Named(b)) => same_bytes(a.as_bytes(), b.as_bytes()),
             (Name::Unnamed(a), Name::Unnamed(b)) => a.is_same(b),
             _ => false,
         }

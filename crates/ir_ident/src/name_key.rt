@@ -1,5 +1,5 @@
 //! Names as the keys of a map.
-ghost use Rattle.std.specs.Prelude.{◌≡◌, ℕ, List, [], ◌∷◌, None, Some, IsSome, OnErr, OnOk, if◌then◌else◌};
+ghost use Rattle.std.specs.Prelude.{◌≡◌, ℕ, List, [], ◌∷◌, None, Some, IsSome, IsTrue, OnErr, OnOk, if◌then◌else◌};
 ghost use Rattle.indexmap.specs.IndexMap.{get, IsUnchanged, Updates};
 ghost use Rattle.ir_ident.specs.NameMaps.{key_value, or_else};
 ghost use Rattle.std.specs.Str.{bytes_eq};
@@ -23,7 +23,7 @@ impl<'a> PartialEq for NameKey<'a> {
     ghost laws = { Prim.search (comparing, rules) };
 
     fn eq(&self, other: &NameKey<'a>) -> bool {
-        self.bytes == other.bytes
+        same_bytes(self.bytes, other.bytes)
     }
 }
 
@@ -38,6 +38,24 @@ impl<'a> Hash for NameKey<'a> {
 
     fn hash<H: Hasher>(&self, state: &mut H) {
         state.write(self.bytes);
+    }
+}
+
+/// Whether these bytes are the same. Names of one text often begin alike, so their lengths and their
+/// last bytes are compared before the others.
+pub(crate) fn same_bytes(a: &[u8], b: &[u8]) -> bool
+    ensures { result ≡ bytes_eq a.now b.now }
+{
+    same_ends(a, b) && a == b
+}
+
+/// Whether these have one length, and one last byte if there is any.
+fn same_ends(a: &[u8], b: &[u8]) -> bool
+    ensures { a.now ≡ b.now → IsTrue result }
+{
+    match (a, b) {
+        ([.., x], [.., y]) => a.len() == b.len() && x == y,
+        _ => a.len() == b.len(),
     }
 }
 

@@ -1,5 +1,5 @@
 //! Values by names, and sets of names (LangRef, "Identifiers").
-ghost use Rattle.std.specs.Prelude.{◌≡◌, ◌||◌, None, Some, false, OnErr, OnOk, if◌then◌else◌};
+ghost use Rattle.std.specs.Prelude.{◌≡◌, ◌||◌, None, Some, false, IfOk, OnErr, OnOk, if◌then◌else◌};
 ghost use Rattle.ir_ident.specs.declared.name.Name.{Name};
 ghost use Rattle.ir_ident.specs.NameMaps.{has_name, or_else, value_of};
 ghost use Rattle.ir_ident.specs.Names.{same_name};
@@ -34,6 +34,21 @@ impl<'a, V: Copy + Drop> NameMap<'a, V> {
             named: IndexMap::new(alloc),
             unnamed: NumberMap::new(alloc),
         }
+    }
+
+    /// No names, with room for so many that the text writes. Numbers take room as they come.
+    ///
+    /// # Errors
+    ///
+    /// [`AllocError`].
+    #[tactic(auto, unfolding(crate::specs::NameMaps::value_of))]
+    pub fn with_room(alloc: Global, room: usize) -> Result<NameMap<'a, V>, AllocError>
+        ensures { IfOk result (λ names. (name : Name) → value_of names name ≡ None) }
+    {
+        Ok(NameMap {
+            named: IndexMap::with_capacity(alloc, room)?,
+            unnamed: NumberMap::new(alloc),
+        })
     }
 
     /// Adds a name's value. A name that has one keeps it.
@@ -79,6 +94,19 @@ impl<'a> NameSet<'a> {
         NameSet {
             names: NameMap::new(alloc),
         }
+    }
+
+    /// No names, with room for so many that the text writes. Numbers take room as they come.
+    ///
+    /// # Errors
+    ///
+    /// [`AllocError`].
+    pub fn with_room(alloc: Global, room: usize) -> Result<NameSet<'a>, AllocError>
+        ensures { IfOk result (λ names. (name : Name) → has_name names name ≡ false) }
+    {
+        Ok(NameSet {
+            names: NameMap::with_room(alloc, room)?,
+        })
     }
 
     /// Adds a name.

@@ -36,22 +36,23 @@ impl<'a> Definitions<'a> {
     pub(crate) fn at(alloc: Global, sites: &[Site<'a>]) -> Result<Definitions<'a>, AllocError>
         ensures { IfOk result (λ d. (site : Site) → knows d site ≡ is_defined sites.now site) }
     {
-        let mut all = Definitions::new(alloc);
+        let mut all = Definitions::with_room_for(alloc, sites)?;
         for site in sites {
             all.insert(site)?;
         }
         Ok(all)
     }
 
-    fn new(alloc: Global) -> Definitions<'a>
-        ensures { (site : Site) → knows result site ≡ false }
+    /// No names, with room for those of these sites.
+    fn with_room_for(alloc: Global, sites: &[Site<'a>]) -> Result<Definitions<'a>, AllocError>
+        ensures { IfOk result (λ d. (site : Site) → knows d site ≡ false) }
     {
-        Definitions {
-            types: NameSet::new(alloc),
-            globals: NameSet::new(alloc),
-            values: NameSet::new(alloc),
-            blocks: NameSet::new(alloc),
-        }
+        Ok(Definitions {
+            types: NameSet::with_room(alloc, count_of(sites, NameKind::NamedType))?,
+            globals: NameSet::with_room(alloc, count_of(sites, NameKind::Global))?,
+            values: NameSet::with_room(alloc, count_of(sites, NameKind::Value))?,
+            blocks: NameSet::with_room(alloc, count_of(sites, NameKind::Block))?,
+        })
     }
 
     fn insert(&mut self, site: &Site<'a>) -> Result<(), AllocError>
@@ -76,4 +77,9 @@ impl<'a> Definitions<'a> {
             NameKind::Block => self.blocks.has(site.name),
         }
     }
+}
+
+/// How many sites name something of a kind.
+fn count_of(sites: &[Site<'_>], kind: NameKind) -> usize {
+    sites.iter().filter(|site| site.kind == kind).count()
 }

@@ -144,7 +144,7 @@ fn push_many_repeats(
 ) -> Result<(), AllocError>
     ensures { OnOk result (lines.new.items ≡ lines.old.items ++ repeats names.now) }
 {
-    let mut seen = NameSet::new(alloc);
+    let mut seen = NameSet::with_room(alloc, names.len())?;
     for defined in names {
         push_if_seen(lines, &seen, defined)?;
         see(&mut seen, defined)?;

@@ -1,5 +1,5 @@
 -- Sizes of the types that instructions write, and of what an `alloca` gives (LangRef, "Data Layout" and "'alloca' Instruction").
-use Rattle.std.specs.Prelude.{ℕ, ◌*◌, Bool, true, false, ◌&&◌, nat_le, Option, None, Some, is_some, List, [], ◌∷◌, map, option_map}
+use Rattle.std.specs.Prelude.{ℕ, ◌*◌, Bool, true, false, ◌&&◌, nat_le, Option, None, Some, is_some, List, [], ◌∷◌, map, option_map, if◌then◌else◌}
 use Rattle.std.specs.List.{flat_map, list_all}
 use Rattle.ir_syntax.specs.Literals.{width_of, wrapped}
 use Rattle.ir_syntax.specs.Types.{TextTree}
@@ -36,6 +36,10 @@ count_of (Some count) = option_map (λ bits. wrapped bits count.value) (width_of
 -- the size of so many elements of a layout, each of which takes its size up to a multiple of its alignment
 abbrev pub alloca_size : Layout → ℕ → ℕ
 alloca_size each count = count * rounded each.size each.align
+
+-- that size, where it is at most 4,294,967,295 bytes
+abbrev pub small_size : Layout → ℕ → Option ℕ
+small_size each count = if nat_le (alloca_size each count) size_limit then Some (alloca_size each count) else None
 
 abbrev pub is_small_alloca : Option Layout → Option ℕ → Bool
 is_small_alloca (Some each) (Some count) = nat_le (alloca_size each count) size_limit

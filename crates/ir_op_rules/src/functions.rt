@@ -8,6 +8,7 @@ ghost use Rattle.ir_scope.specs.Locals.{local_scalar};
 use crate::parts::push_body;
 use crate::scope::Scope;
 use crate::values::is_value_type;
+use crate::written::WrittenTypes;
 use ir_scope::local_scalars;
 use ir_sizes::NamedTypes;
 use ir_syntax::{Function, Module, Param, TyText, push_line_if};
@@ -36,11 +37,12 @@ fn signature_fits(function: &Function) -> bool
 }
 
 /// Adds the lines of the phis, instructions and terminators of a function that break a rule.
-fn push_parts(
+fn push_parts<'a>(
     alloc: Global,
     types: &NamedTypes<'_>,
+    written: &mut WrittenTypes<'a>,
     lines: &mut Vec<u32>,
-    function: &Function,
+    function: &'a Function,
 ) -> Result<(), AllocError>
     ensures { OnOk result (lines.new.items
         ≡ lines.old.items ++ body_lines (local_scalar function.now) (layout_in types.now) function.now.result function.now.blocks) }
@@ -51,31 +53,33 @@ fn push_parts(
         types,
         returned: &function.result,
     };
-    push_body(alloc, &scope, lines, &function.blocks)
+    push_body(alloc, &scope, written, lines, &function.blocks)
 }
 
-fn push_function(
+fn push_function<'a>(
     alloc: Global,
     types: &NamedTypes<'_>,
+    written: &mut WrittenTypes<'a>,
     lines: &mut Vec<u32>,
-    function: &Function,
+    function: &'a Function,
 ) -> Result<(), AllocError>
     ensures { OnOk result (lines.new.items ≡ lines.old.items ++ function_lines (layout_in types.now) function.now) }
 {
     push_line_if(lines, !signature_fits(function), function.line)?;
-    push_parts(alloc, types, lines, function)
+    push_parts(alloc, types, written, lines, function)
 }
 
-fn push_functions(
+fn push_functions<'a>(
     alloc: Global,
     types: &NamedTypes<'_>,
+    written: &mut WrittenTypes<'a>,
     lines: &mut Vec<u32>,
-    functions: &[Function],
+    functions: &'a [Function],
 ) -> Result<(), AllocError>
     ensures { OnOk result (lines.new.items ≡ lines.old.items ++ flat_map (function_lines (layout_in types.now)) functions.now) }
 {
     for function in functions {
-        push_function(alloc, types, lines, function)?;
+        push_function(alloc, types, written, lines, function)?;
     }
     Ok(())
 }
@@ -92,5 +96,6 @@ pub fn push_op_lines(alloc: Global, m: &Module, lines: &mut Vec<u32>) -> Result<
     ensures { OnOk result (lines.new.items ≡ lines.old.items ++ op_lines m.now) }
 {
     let types = NamedTypes::new(alloc, m.types.as_slice())?;
-    push_functions(alloc, &types, lines, m.functions.as_slice())
+    let mut written = WrittenTypes::new(alloc);
+    push_functions(alloc, &types, &mut written, lines, m.functions.as_slice())
 }

@@ -17,4 +17,5 @@ mod written;
 
 pub use functions::push_op_lines;
 pub use memory::is_access_aligned;
+pub use sizes::{count_of, small_size};
 pub use values::are_same;

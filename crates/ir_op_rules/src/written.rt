@@ -41,6 +41,13 @@ impl<'a> WrittenTypes<'a> {
             types: Vec::new(alloc),
         }
     }
+
+    /// Drops all types, and keeps their memory.
+    pub(crate) fn clear(&mut self)
+        ensures { self.new.types.items ≡ [] }
+    {
+        self.types.clear();
+    }
 }
 
 impl<'a> Visitor<'a> for WrittenTypes<'a> {

@@ -1,5 +1,6 @@
 -- Tokens between brackets, of which only the brackets count.
-use Rattle.std.specs.Prelude.{◌≡◌, ℕ, suc, Bool, false, List, [], ◌∷◌, ◌++◌, length, Ok, Err, if◌then◌else◌}
+use Rattle.std.specs.Prelude.{◌≡◌, ℕ, suc, ◌<◌, Bool, false, List, [], ◌∷◌, ◌++◌, drop, length, Ok, Err, if◌then◌else◌}
+use Rattle.std.specs.declared.result.Result.{Result}
 use Rattle.ir_words.specs.Classes.{class_of, same}
 use Rattle.ir_words.specs.Lexemes.{Lexeme}
 use Rattle.ir_words.specs.declared.class.Class.{Class}
@@ -8,6 +9,8 @@ use Rattle.ir_rules.specs.declared.bracket.Bracket.{Bracket}
 use Rattle.ir_rules.specs.declared.bracket.Bracket.TheVariants.{Round, Square, Curly, Packed}
 use Rattle.ir_rules.specs.declared.bracket.Role.{Role}
 use Rattle.ir_rules.specs.declared.bracket.Role.TheVariants.{Opens, Closes, Plain}
+use Rattle.ir_rules.specs.declared.end.End.{End}
+use Rattle.ir_rules.specs.declared.end.End.TheVariants.{NoMemory, Bad}
 
 abbrev pub opener : Bracket → Class
 opener Round = Class.OpenRound
@@ -60,6 +63,13 @@ abbrev pub skip_to : List Bracket → List Lexeme → Answer (Unit {0})
 skip_to [] ts = Ok (tt, ts)
 skip_to (awaited ∷ stack) [] = Err 0
 skip_to (awaited ∷ stack) (t ∷ ts) = skip_on (role_of (class_of t)) awaited stack (suc (length ts)) (λ stack. skip_to stack ts)
+
+-- After a token these brackets are awaited in place of those before it, and it was there; or it is
+-- the bad one.
+abbrev pub Passes : Result (Unit {0}) End → List Bracket → List Lexeme → List Bracket → Type 0
+Passes (Ok done) awaited ts behind = (0 < length ts) × (skip_to awaited ts ≡ skip_to behind (drop 1 ts))
+Passes (Err NoMemory) awaited ts behind = Unit {0}
+Passes (Err (Bad left)) awaited ts behind = skip_to awaited ts ≡ Err left
 
 -- a bracket, balanced tokens, and the bracket that closes it
 abbrev pub enclosed : Bracket → Rule (Unit {0})

@@ -1,6 +1,6 @@
 //! Tokens between brackets, skipped.
-ghost use Rattle.std.specs.Prelude.{◌≡◌};
-ghost use Rattle.ir_rules.specs.Balance.{enclosed};
+ghost use Rattle.std.specs.Prelude.{◌≡◌, ◌∷◌, reverse};
+ghost use Rattle.ir_rules.specs.Balance.{Passes, enclosed};
 ghost use Rattle.ir_rules.specs.Reading.{Gives};
 
 use crate::bracket::{Bracket, Role, opener, role_of};
@@ -8,6 +8,35 @@ use crate::end::End;
 use crate::token::{bad, word};
 use ir_words::Cursor;
 use std::alloc::{AllocError, Global};
+
+/// Passes the first token, where `last` is the innermost bracket that is open and `awaited` has those
+/// round it, the innermost at its end.
+///
+/// # Errors
+///
+/// `Bad` at this token if it closes another bracket, or at the end.
+fn pass(rest: &Cursor<'_>, last: Bracket, awaited: &mut Vec<Bracket>) -> Result<(), End>
+    ensures { Passes result (last ∷ reverse awaited.old.items) rest.now (reverse awaited.new.items) }
+{
+    match role_of(rest.first()) {
+        Role::Opens(next) => {
+            awaited.push(last)?;
+            awaited.push(next)?;
+        }
+        Role::Closes(next) => {
+            if next != last {
+                return Err(bad(rest));
+            }
+        }
+        Role::Plain => {
+            if rest.len() == 0 {
+                return Err(bad(rest));
+            }
+            awaited.push(last)?;
+        }
+    }
+    Ok(())
+}
 
 /// Skips a bracket, all up to the one that closes it, and that one.
 ///
@@ -26,23 +55,7 @@ pub fn skip_enclosed<'t>(
     let mut awaited = Vec::new(alloc);
     awaited.push(bracket)?;
     while let Some(last) = awaited.pop() {
-        match role_of(rest.first()) {
-            Role::Opens(next) => {
-                awaited.push(last)?;
-                awaited.push(next)?;
-            }
-            Role::Closes(next) => {
-                if next != last {
-                    return Err(bad(&rest));
-                }
-            }
-            Role::Plain => {
-                if rest.len() == 0 {
-                    return Err(bad(&rest));
-                }
-                awaited.push(last)?;
-            }
-        }
+        pass(&rest, last, &mut awaited)?;
         rest = rest.skip();
     }
     Ok(rest)

@@ -8,7 +8,7 @@ ghost use Rattle.ir_scope.specs.Locals.{Adds, Value, block_values, body_values, 
 use crate::results::op_scalar;
 use crate::scalar::{Scalar, maybe_scalar, scalar_of};
 use ir_ident::{Name, NameMap};
-use ir_syntax::{Block, Blocks, Function, Instr, Param, Phi};
+use ir_syntax::{Block, Blocks, Function, Instr, Param, Phi, value_count};
 use std::alloc::{AllocError, Global};
 
 /// The types of the parameters and results of a function by their names; where several have one name, of the first one. A
@@ -20,10 +20,19 @@ use std::alloc::{AllocError, Global};
 pub fn local_scalars(alloc: Global, function: &Function) -> Result<NameMap<'_, Scalar>, AllocError>
     ensures { IfOk result (λ scalars. (name : Name) → value_of scalars name ≡ local_scalar function.now name) }
 {
-    let mut scalars = NameMap::new(alloc);
+    let mut scalars = NameMap::with_room(alloc, room_for(function))?;
     add_all(function.params.as_slice(), &mut scalars)?;
     add_body(&function.blocks, &mut scalars)?;
     Ok(scalars)
+}
+
+/// How much room the names of a function's values may take.
+fn room_for(function: &Function) -> usize {
+    let params = function.params.as_slice();
+    match &function.blocks {
+        Some(blocks) => value_count(params, blocks.as_slice()),
+        None => params.len(),
+    }
 }
 
 /// What has values with names.

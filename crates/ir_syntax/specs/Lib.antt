@@ -7,3 +7,4 @@ pub mod Literals
 pub mod Terms
 pub mod TypeCodes
 pub mod Types
+pub mod Values

@@ -24,6 +24,7 @@ mod term;
 mod tree;
 mod ty;
 mod type_def;
+mod values;
 
 pub use alias::{Alias, AliasBase, Aliases};
 pub use block::{Block, Blocks};
@@ -46,3 +47,4 @@ pub use term::{Case, Cases, Term};
 pub use tree::{TypeNode, TypeTree, TypeTreeList};
 pub use ty::{TyText, TypeTexts};
 pub use type_def::{TypeDef, TypeDefs};
+pub use values::value_count;

@@ -15,10 +15,13 @@ use std::marker::Model;
 pub struct Cursor<'t> {
     text: &'t [u8],
     tokens: &'t [Token],
+    // what the first token is: readers ask for it many times before they skip it
+    class: Class,
 }
 
 impl<'t> Model for Cursor<'t> {
-    ghost use Rattle.std.specs.Prelude.{List};
+    ghost use Rattle.std.specs.Prelude.{◌≡◌, List};
+    ghost use Rattle.ir_words.specs.Classes.{first};
     ghost use Rattle.ir_words.specs.Lexemes.{Lexeme, lexemes};
     ghost use Rattle.ir_words.specs.Spans.{LieIn};
 
@@ -26,7 +29,7 @@ impl<'t> Model for Cursor<'t> {
 
     ghost view = { λ r. lexemes r.text.now r.tokens.now };
 
-    ghost invariant = { λ r. LieIn r.text.now r.tokens.now };
+    ghost invariant = { λ r. LieIn r.text.now r.tokens.now × (r.class ≡ first (lexemes r.text.now r.tokens.now)) };
 }
 
 impl<'t> Cursor<'t> {
@@ -36,9 +39,11 @@ impl<'t> Cursor<'t> {
         requires { AreSpans 0 (length text.now) tokens.now }
         ensures { result ≡ lexemes text.now tokens.now }
     {
+        let tokens = tokens.as_slice();
         Cursor {
             text,
-            tokens: tokens.as_slice(),
+            tokens,
+            class: first_class(text, tokens),
         }
     }
 
@@ -46,7 +51,7 @@ impl<'t> Cursor<'t> {
     pub fn first(&self) -> Class
         ensures { result ≡ first self.now }
     {
-        first_class(self.text, self.tokens)
+        self.class
     }
 
     /// How many tokens there are.
@@ -83,9 +88,11 @@ impl<'t> Cursor<'t> {
     pub fn skip(self) -> Cursor<'t>
         ensures { result ≡ drop 1 self.entry }
     {
+        let tokens = after_first(self.text, self.tokens);
         Cursor {
             text: self.text,
-            tokens: after_first(self.text, self.tokens),
+            tokens,
+            class: first_class(self.text, tokens),
         }
     }
 
@@ -96,6 +103,7 @@ impl<'t> Cursor<'t> {
         Cursor {
             text: self.text,
             tokens: self.tokens,
+            class: self.class,
         }
     }
 }

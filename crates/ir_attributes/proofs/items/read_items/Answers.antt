@@ -1,6 +1,7 @@
-use Rattle.std.proofs.Common.{rules, ◌++◌, ◌∷◌, [], Ok, ap, refl, ◌∙◌}
+use Rattle.std.proofs.Common.{rules, ◌++◌, ◌∷◌, [], Ok, ap, refl, sym, ◌∙◌}
 use Rattle.std.proofs.lemmas.List.{append-nil}
 use Rattle.std.specs.List.{filter_map}
+use Rattle.ir_words.proofs.Numbers.{same_is}
 use Rattle.ir_words.specs.declared.class.Class.TheVariants.{Comma}
 use Rattle.ir_rules.proofs.Repeats.{begun, chain_ended, chain_fails, chain_steps, not_begun, sifted}
 use Rattle.ir_rules.proofs.Whole.{read_shorter}
@@ -31,7 +32,7 @@ loop-rest-preserved g c =
     (λ found. c.loop-rest.list.items ++ filter_map (λ x. x) found) (λ found. c.push_found.new.list.items ++ filter_map (λ x. x) found)
     c.loop-rest.before c.may_follow-before.result c.in_ok-found.found c.loop-rest.rest c.in_ok-found.after _ c.may_follow-before.ensures
     (sifted (λ x. x) c.loop-rest.list.items c.push_found.new.list.items c.in_ok-found.found (search rules))
-    (begun Comma c.loop-rest.rest refl (search rules)) (search rules) c.loop-rest.invariant
+    (begun Comma c.loop-rest.rest refl (sym c.first.ensures ∙ same_is _ Comma (sym c.loop-rest-test.ensures))) (search rules) c.loop-rest.invariant
 
 pub returns : goal.returns
 returns g c =

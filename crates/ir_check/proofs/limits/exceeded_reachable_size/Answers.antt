@@ -4,7 +4,7 @@ use Rattle.ir_check.proofs.SizeLemmas.{above-same, first-arm, last-arm, second-a
 use Rattle.ir_cfg.specs.Capped.{capped}
 use Rattle.ir_cfg.specs.Sizes.{function_size}
 use Rattle.ir_syntax.specs.declared.refusal.Count.TheVariants.{Instructions, OneFunction}
-use Rattle.ir_check.proofs.limits.exceeded_size.Goals as goal
+use Rattle.ir_check.proofs.limits.exceeded_reachable_size.Goals as goal
 
 pub returns-then-is_any_above : goal.returns-then-is_any_above
 returns-then-is_any_above c =
