@@ -1,9 +1,10 @@
--- No line of code has a line feed in it, or a percent sign, with which the part of an address begins.
+-- No line of code has a line feed in it, a percent sign, with which the part of an address begins, or a point, with which a
+-- label does.
 use Rattle.std.proofs.Common.{◌≡◌, ◌<◌, ◌≤◌, ◌^◌, ◌%◌, ◌+◌, ◌++◌, ◌∷◌, [], ℕ, ℤ, pos, negsuc, zero, suc, List, Bool, true, not, ◌&&◌, refl, ap, ◌∙◌, arith, codes, get_or}
 use Rattle.std.specs.Prelude.{◌==◌}
 use Rattle.std.specs.Fmt.{decimal, signed_decimal}
 use Rattle.std.specs.List.{list_all}
-use Rattle.std.proofs.lemmas.Bool.{and_from, and_parts, ne_eqb}
+use Rattle.std.proofs.lemmas.Bool.{and_from, and_parts}
 use Rattle.std.proofs.lemmas.Bool.Decides.{nat_tests}
 use Rattle.std.proofs.lemmas.Fmt.{decimal_by_steps}
 use Rattle.std.proofs.lemmas.Int.{ints}
@@ -25,7 +26,7 @@ use Rattle.asm_inst.proofs.NumberLemmas.{IsSmall}
 use Rattle.asm_inst.proofs.RegisterLemmas.{below_holds}
 
 abbrev pub is_calm : ℕ → Bool
-is_calm b = not (b == 10) && not (b == 37)
+is_calm b = not (b == 10) && not (b == 37) && not (b == 46)
 
 abbrev pub are_calm : List ℕ → Bool
 are_calm bytes = list_all is_calm bytes
@@ -41,8 +42,8 @@ calm_in (name ∷ names) all (suc n) = calm_in names (and_parts (are_calm name) 
 calm_register : (r : ℕ) → are_calm (register r) ≡ true
 calm_register r = calm_in register_names refl r
 
-calm_byte : (b : ℕ) → 40 ≤ b → is_calm b ≡ true
-calm_byte b high = ap (λ t. not t && not (b == 37)) (ne_eqb b 10 (λ e. omega arith)) ∙ ap not (ne_eqb b 37 (λ e. omega arith))
+calm_byte : (b : ℕ) → 48 ≤ b → is_calm b ≡ true
+calm_byte b high = grind (arith, nat_tests)
 
 calm_decimal : (n : ℕ) → n < 2 ^ 64 → are_calm (decimal n) ≡ true
 calm_decimal n small =

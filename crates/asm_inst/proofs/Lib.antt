@@ -8,3 +8,4 @@ pub mod OnceLemmas
 pub mod OperandLemmas
 pub mod ReadingLemmas
 pub mod RegisterLemmas
+pub mod OpenLemmas

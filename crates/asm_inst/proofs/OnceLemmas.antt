@@ -45,13 +45,13 @@ parts_once w v (first ∷ more) (second ∷ rest) f g op other is_w is_v e =
 
 -- The instructions with certain operands.
 
-same_from_bytes : (xs ys : List ℕ) → bytes_eq xs ys ≡ true → xs ≡ ys
+pub same_from_bytes : (xs ys : List ℕ) → bytes_eq xs ys ≡ true → xs ≡ ys
 same_from_bytes xs ys h = (bytes_eq-Decides xs ys).0 h
 
-right_of : (a b : Bool) → a ≡ true → (not a || b) ≡ true → b ≡ true
+pub right_of : (a b : Bool) → a ≡ true → (not a || b) ≡ true → b ≡ true
 right_of a b h k = grind (arith, nat_tests)
 
-abbrev is_add : Shape → Bool
+abbrev pub is_add : Shape → Bool
 is_add AddImmediate = true
 is_add other = false
 
@@ -185,12 +185,12 @@ code_once i j h k e =
     (sym (line_parts i) ∙ e ∙ line_parts j) in
     by_form (form i) i j h k refl (sym (same_form (form i) (form j) i.op j.op parts.0)) parts.0 parts.1
 
--- the line begins with a tab, and with a letter behind it
-abbrev starts_plain : List ℕ → Bool
+-- the line begins with a tab, and behind it with a letter other than the first one of `unimp`
+abbrev pub starts_plain : List ℕ → Bool
 starts_plain [] = false
-starts_plain (b ∷ bytes) = not (b == 46)
+starts_plain (b ∷ bytes) = not (b == 46) && not (b == 117)
 
-plain_mnemonic : (op : Op) → starts_plain (mnemonic op) ≡ true
+pub plain_mnemonic : (op : Op) → starts_plain (mnemonic op) ≡ true
 plain_mnemonic op = each (λ o. starts_plain (mnemonic o)) (below_holds 65 (λ n. starts_plain (mnemonic (op_at n))) refl) op
 
 plain_word : (f : Form) (op : Op) → starts_plain (word_in f (mnemonic op)) ≡ true
@@ -206,17 +206,19 @@ pub record BeginsCode (line : List ℕ) : Type 0 where
   pub rest : List ℕ
   pub is : line ≡ 9 ∷ first ∷ rest
   pub plain : (first == 46) ≡ false
+  pub other : (first == 117) ≡ false
 
-begins_by : (word : List ℕ) (texts : List (List ℕ)) → starts_plain word ≡ true → BeginsCode (spelled_line word texts)
+no_point : (b : ℕ) → (not (b == 46) && not (b == 117)) ≡ true → (b == 46) ≡ false
+no_point b h = grind (arith, nat_tests)
+
+no_other : (b : ℕ) → (not (b == 46) && not (b == 117)) ≡ true → (b == 117) ≡ false
+no_other b h = grind (arith, nat_tests)
+
+pub begins_by : (word : List ℕ) (texts : List (List ℕ)) → starts_plain word ≡ true → BeginsCode (spelled_line word texts)
 begins_by [] texts h = absurd (cc)
-begins_by (b ∷ word) [] h = record { first = b; rest = word; is = refl; plain = no_point b h }
-  where
-    no_point : (b : ℕ) → not (b == 46) ≡ true → (b == 46) ≡ false
-    no_point b h = grind (arith, nat_tests)
-begins_by (b ∷ word) (first ∷ more) h = record { first = b; rest = word ++ 9 ∷ operands (first ∷ more); is = refl; plain = no_point b h }
-  where
-    no_point : (b : ℕ) → not (b == 46) ≡ true → (b == 46) ≡ false
-    no_point b h = grind (arith, nat_tests)
+begins_by (b ∷ word) [] h = record { first = b; rest = word; is = refl; plain = no_point b h; other = no_other b h }
+begins_by (b ∷ word) (first ∷ more) h =
+    record { first = b; rest = word ++ 9 ∷ operands (first ∷ more); is = refl; plain = no_point b h; other = no_other b h }
 
 pub code_begins : (i : Inst) → BeginsCode (instruction_line i)
 code_begins i = subst BeginsCode (sym (line_parts i)) (begins_by (line_word i) (line_operands i) (plain_word (form i) i.op))

@@ -3,3 +3,4 @@ pub mod Forms
 pub mod Grammar
 pub mod Mnemonics
 pub mod Readings
+pub mod Targets

@@ -12,7 +12,9 @@ mod operands;
 mod reader;
 mod register;
 mod short;
+mod target;
 
 pub use bytes::{after, before, cut_at};
 pub use number::is_number;
 pub use reader::read_inst;
+pub use target::{Target, read_open, target_of};

@@ -147,7 +147,7 @@ fn read_name(alloc: Global, bytes: &[u8]) -> Result<Option<Vec<u8>>, AllocError>
 }
 
 /// Whether the name is `.LBBf_b` for two numbers, as the labels within functions are.
-fn is_label(name: &[u8]) -> bool
+pub fn is_label(name: &[u8]) -> bool
     ensures { IsTrue result ↔ IsLabel name.now }
 {
     let Some(numbers) = after(name, b".LBB") else {

@@ -6,18 +6,19 @@ use Rattle.std.proofs.Math.Seq.{drop-append_seam}
 use Rattle.std.proofs.lemmas.Bool.{and_left, and_parts, both_ways, ne_eqb, not-true}
 use Rattle.std.proofs.lemmas.List.{append-nil}
 use Rattle.rv_isa.specs.Statements.{statement_line}
-use Rattle.rv_isa.specs.Symbol.{escaped, is_bare, is_digit, is_symbol_byte, spelled}
-use Rattle.rv_isa.specs.Text.{instruction_line}
+use Rattle.rv_isa.specs.Symbol.{IsLabel, escaped, is_bare, is_digit, is_symbol_byte, spelled}
+use Rattle.rv_isa.specs.Text.{instruction_line, line_to}
 use Rattle.rv_isa.specs.declared.inst.Inst.{Inst}
 use Rattle.rv_isa.specs.declared.statement.Statement.{Statement}
-use Rattle.rv_isa.specs.declared.statement.Statement.TheVariants.{Text, Global, Align, Define, Code}
+use Rattle.rv_isa.specs.declared.statement.Statement.TheVariants.{Text, Global, Align, Define, Code, Unimp, Label, ToLabel}
 use Rattle.asm_inst.specs.Grammar.{IsRead}
 use Rattle.asm_line.specs.Statements.{IsStatement, defined, exported}
 use Rattle.asm_inst.proofs.CodeLemmas.{are_calm, code_calm, is_calm}
-use Rattle.asm_inst.proofs.OnceLemmas.{code_begins}
+use Rattle.asm_inst.proofs.OnceLemmas.{BeginsCode, code_begins}
+use Rattle.asm_inst.proofs.OpenLemmas.{open_begins, open_kept}
 use Rattle.asm_line.proofs.SymbolLemmas.{how_spelled}
 use Rattle.asm_print.specs.Symbols.{after_percent, defined_in, exported_in, is_label, leading, needed_in, one_symbol, quoted_prefix, symbol_at}
-use Rattle.asm_print.proofs.Labels.{no_label}
+use Rattle.asm_print.proofs.Labels.{bare_no_percent, is_label_when, is_no_percent, label_bare, no_label}
 
 -- A name that stands without quotes.
 
@@ -185,7 +186,7 @@ calm_needs : (bytes : List ℕ) → are_calm bytes ≡ true → after_percent by
 calm_needs [] calm = refl
 calm_needs (b ∷ bytes) calm =
     let parts = and_parts (is_calm b) (are_calm bytes) calm in
-    ap (λ t. cond t (one_symbol (symbol_at (drop 3 bytes))) (after_percent bytes)) (not-true (b == 37) (and_parts (not (b == 10)) (not (b == 37)) parts.0).1)
+    ap (λ t. cond t (one_symbol (symbol_at (drop 3 bytes))) (after_percent bytes)) (not-true (b == 37) (and_parts (not (b == 10)) (not (b == 37)) (and_parts (not (b == 10) && not (b == 37)) (not (b == 46)) parts.0).0).1)
     ∙ calm_needs bytes parts.1
 
 -- what follows a tab is looked through
@@ -196,6 +197,50 @@ code_needs inst read =
     ∙ needs_percent begins.first begins.rest begins.plain
     ∙ ap after_percent (sym begins.is)
     ∙ calm_needs (instruction_line inst) (code_calm inst read)
+
+-- Lines with labels.
+
+label_defines : (name : List ℕ) → IsLabel name → defined_in (name ++ 58 ∷ []) ≡ []
+label_defines name label =
+    ap (λ n. defined_in (n ++ 58 ∷ [])) label.2
+    ∙ point_defines (codes "LBB" ++ (label.0 ++ 95 ∷ label.1)) (subst (λ n. list_all is_symbol_byte n ≡ true) label.2 (label_bare name label)) (subst (λ n. is_label n ≡ true) label.2 (is_label_when name label))
+  where
+    point_defines : (rest : List ℕ) → list_all is_symbol_byte (46 ∷ rest) ≡ true → is_label (46 ∷ rest) ≡ true → defined_in ((46 ∷ rest) ++ 58 ∷ []) ≡ []
+    point_defines rest all is =
+        let line : List ℕ = (46 ∷ rest) ++ 58 ∷ [] in
+        let read : List ℕ → List ℕ → List (List ℕ) = λ s after. cond (bytes_eq after (codes ":") && not (is_label s)) (one_symbol s) [] in
+        ap (λ s. read s (drop (length s) line)) (all_leading (46 ∷ rest) (58 ∷ []) all refl)
+        ∙ ap (read (46 ∷ rest)) (drop-append_seam (46 ∷ rest) (codes ":"))
+        ∙ ap (λ t. cond (not t) (one_symbol (46 ∷ rest)) []) is
+
+label_exports : (name : List ℕ) → IsLabel name → exported_in (name ++ 58 ∷ []) ≡ []
+label_exports name label = ap (λ n. exported_in (n ++ 58 ∷ [])) label.2
+
+label_needs : (name : List ℕ) → IsLabel name → needed_in (name ++ 58 ∷ []) ≡ []
+label_needs name label = ap (λ n. needed_in (n ++ 58 ∷ [])) label.2
+
+begun_defines : (line : List ℕ) → BeginsCode line → defined_in line ≡ []
+begun_defines line begins = ap defined_in begins.is ∙ defines_none begins.first begins.rest begins.plain
+
+begun_exports : (line : List ℕ) → BeginsCode line → exported_in line ≡ []
+begun_exports line begins = ap exported_in begins.is ∙ exports_none begins.first begins.rest begins.plain
+
+percent_needs : (bytes : List ℕ) → list_all is_no_percent bytes ≡ true → after_percent bytes ≡ []
+percent_needs [] h = refl
+percent_needs (b ∷ bytes) h =
+    let parts = and_parts (is_no_percent b) (list_all is_no_percent bytes) h in
+    ap (λ t. cond t (one_symbol (symbol_at (drop 3 bytes))) (after_percent bytes)) (not-true (b == 37) parts.0)
+    ∙ percent_needs bytes parts.1
+
+to_label_needs : (inst : Inst) (name : List ℕ) → IsLabel name → needed_in (line_to inst name) ≡ []
+to_label_needs inst name label =
+    let begins = open_begins inst name in
+    ap needed_in begins.is
+    ∙ needs_percent begins.first begins.rest begins.plain
+    ∙ ap after_percent (sym begins.is)
+    ∙ percent_needs (line_to inst name)
+    (open_kept is_no_percent (record { registers = refl; words = refl; tab = refl; blank = refl; opening = refl; closing = refl; comma = refl; in_j = refl; in_l = refl; in_i = refl }) inst name
+    ∙ bare_no_percent name (label_bare name label))
 
 -- the symbol of a name, where there is one
 abbrev pub symbol_if : Option (List ℕ) → List (List ℕ)
@@ -208,6 +253,9 @@ line_defines (Global name) formed = refl
 line_defines Align formed = refl
 line_defines (Define name) formed = definition_defines name (no_label name formed.1)
 line_defines (Code inst) formed = code_defines inst
+line_defines Unimp formed = refl
+line_defines (Label name) formed = label_defines name formed
+line_defines (ToLabel inst name) formed = begun_defines (line_to inst name) (open_begins inst name)
 
 pub line_exports : (statement : Statement) → IsStatement statement → exported_in (statement_line statement) ≡ symbol_if (exported statement)
 line_exports Text formed = refl
@@ -215,6 +263,9 @@ line_exports (Global name) formed = export_exports name
 line_exports Align formed = refl
 line_exports (Define name) formed = definition_exports name
 line_exports (Code inst) formed = code_exports inst
+line_exports Unimp formed = refl
+line_exports (Label name) formed = label_exports name formed
+line_exports (ToLabel inst name) formed = begun_exports (line_to inst name) (open_begins inst name)
 
 pub line_needs : (statement : Statement) → IsStatement statement → needed_in (statement_line statement) ≡ []
 line_needs Text formed = refl
@@ -222,3 +273,6 @@ line_needs (Global name) formed = refl
 line_needs Align formed = refl
 line_needs (Define name) formed = definition_needs name
 line_needs (Code inst) formed = code_needs inst formed
+line_needs Unimp formed = refl
+line_needs (Label name) formed = label_needs name formed
+line_needs (ToLabel inst name) formed = to_label_needs inst name formed.2

@@ -1,7 +1,7 @@
 -- What the statements of items assemble to.
 use Rattle.std.proofs.Common.{◌≡◌, ◌+◌, ◌*◌, ◌++◌, ◌∷◌, [], ℕ, pos, List, Bool, true, false, map, length, refl, ap, ap₂, sym, ◌∙◌, arith}
 use Rattle.std.specs.Prelude.{bytes_eq}
-use Rattle.std.specs.List.{IsDistinct, list_any, AllByRecursion as ByRecursion}
+use Rattle.std.specs.List.{IsDistinct, flat_map, list_any, AllByRecursion as ByRecursion}
 use Rattle.std.proofs.lemmas.Grind.{flat_map-append}
 use Rattle.std.proofs.lemmas.List.{map-append}
 use Rattle.rv_isa.specs.declared.inst.Inst.{Inst}
@@ -9,12 +9,18 @@ use Rattle.rv_isa.specs.declared.inst.Line.{Line}
 use Rattle.rv_isa.specs.declared.inst.Line.TheVariants.{Plain}
 use Rattle.rv_isa.specs.declared.statement.Statement.{Statement}
 use Rattle.rv_isa.specs.declared.statement.Statement.TheVariants.{Text, Align, Define, Code}
-use Rattle.asm_read.specs.Assembly.{IsObjectOf, exports, symbols_after, words}
+use Rattle.asm_read.specs.Assembly.{IsObjectOf, exports, symbols_after}
+use Rattle.asm_read.proofs.OrderLemmas.{direct_words}
 use Rattle.asm_line.specs.Statements as statement
 use Rattle.asm_read.specs.declared.object.ObjectSymbol.{ObjectSymbol}
 use Rattle.asm_read.specs.declared.object.Section as section
 use Rattle.asm_print.specs.Items.{Item, export_of, item_statements, items_code, object_of, statements_of, symbols_from}
 use Rattle.asm_print.proofs.Exports.{all_exported}
+use Rattle.asm_print.proofs.Ordering.{items_direct}
+
+-- the code as it stands
+abbrev words : List Statement → List Line
+words statements = flat_map statement.code statements
 
 code_words : (code : List Inst) → words (map (λ inst. Code inst) code) ≡ map (λ inst. Plain inst) code
 code_words [] = refl
@@ -69,7 +75,7 @@ items_symbols global before (item ∷ items) shown =
 
 pub items_object : (items : List Item) → IsDistinct bytes_eq (map (λ item. item.name) items) → IsObjectOf (statements_of items) (object_of items)
 items_object items differ = record {
-  has_words = sym (items_words items);
+  has_words = sym (direct_words (statements_of items) (items_direct items) ∙ items_words items);
   has_symbols = sym (items_symbols (λ name. list_any (exports name) (statements_of items)) 0 items (all_exported items differ));
   has_no_needs = refl;
 }

@@ -9,6 +9,7 @@ use Rattle.rv_isa.specs.Symbol.{IsSymbol}
 use Rattle.rv_isa.specs.declared.inst.Inst.{Inst}
 use Rattle.rv_isa.specs.declared.statement.Statement.{Statement}
 use Rattle.rv_isa.specs.declared.statement.Statement.TheVariants.{Text, Global, Align, Define, Code}
+use Rattle.asm_read.proofs.OrderLemmas.{AreDirect, direct_alone, direct_near, direct_placed}
 use Rattle.asm_read.proofs.ReadLemmas.{contains_first, contains_more, first_or_more}
 use Rattle.asm_read.specs.Assembly.{AreOrdered}
 use Rattle.asm_line.specs.Statements.{IsStatement, defined}
@@ -105,10 +106,28 @@ begins : (items : List Item) → (statements_of items ≡ []) ⊎ ((rest : List 
 begins [] = inl refl
 begins (item ∷ items) = inr (_, refl)
 
+-- none has labels
+
+code_direct : (code : List Inst) (rest : List Statement) → AreDirect rest → AreDirect (map (λ inst. Code inst) code ++ rest)
+code_direct [] rest h = h
+code_direct (inst ∷ code) rest h = (refl, code_direct code rest h)
+
+item_direct : (shown : Bool) (name : List ℕ) (code : List Inst) (rest : List Statement) → AreDirect rest →
+    AreDirect ((Text ∷ (export_of shown name ++ Align ∷ Define name ∷ map (λ inst. Code inst) code)) ++ rest)
+item_direct true name code rest h = (refl, (refl, (refl, (refl, code_direct code rest h))))
+item_direct false name code rest h = (refl, (refl, (refl, code_direct code rest h)))
+
+pub items_direct : (items : List Item) → AreDirect (statements_of items)
+items_direct [] = tt
+items_direct (item ∷ items) = item_direct item.exported item.name item.code (statements_of items) (items_direct items)
+
 pub items_ordered : (items : List Item) → AreItems items → AreOrdered (statements_of items)
 items_ordered items are = record {
   allowed = items_allowed items are.formed;
   begins = begins items;
   once = defined_once items are.differ;
   known = exported_known items;
+  alone = direct_alone (statements_of items) (items_direct items);
+  placed = direct_placed (statements_of items) (items_direct items);
+  near = direct_near (statements_of items) (items_direct items);
 }

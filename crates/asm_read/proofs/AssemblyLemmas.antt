@@ -1,17 +1,20 @@
 -- From what was read to the text: it is an assembly, or its first bad line is known.
-use Rattle.std.proofs.Common.{◌≡◌, ◌<◌, ◌↔◌, ◌∙◌, ℕ, suc, List, [], ◌∷◌, Bool, true, false, Option, Some, None, All, map, IsTrue, inl, inr, refl, sym, ap, subst, arith, length, take, slice_index_or}
+use Rattle.std.proofs.Common.{◌≡◌, ◌<◌, ◌≤◌, ◌+◌, ◌⊎◌, ◌↔◌, ◌∙◌, ℕ, zero, suc, List, [], ◌∷◌, ◌++◌, Bool, true, false, Option, Some, None, All, map, IsTrue, inl, inr, refl, sym, ap, subst, arith, length, length-append, take, drop, slice_index_or}
 use Rattle.std.proofs.lemmas.Bool.{false≢true}
+use Rattle.std.proofs.lemmas.List.{length-map, take-append-drop}
 use Rattle.std.proofs.lemmas.List.Elements.{All-cons, All-head, All-nil, All-tail}
 use Rattle.std.specs.List.{list_any}
-use Rattle.asm_read.specs.Assembly.{Assembles, IsObjectOf, is_some_and, HasLines, IsAssembly, IsBadLine, IsFirstBad, IsRefusal, defines}
-use Rattle.asm_read.specs.Checks.{AreRead, IsFirstRefused, IsRefused, statements_in, refuses, refuses_at}
+use Rattle.asm_read.specs.Assembly.{Assembles, IsObjectOf, HasLines, IsAssembly, IsBadLine, IsFarLine, IsFirstBad, IsRefusal, IsRefusedLine}
+use Rattle.asm_read.specs.Checks.{AreRead, IsEnd, IsFirstRefused, IsMissed, IsRefused, gives, is_far_at, statements_in, refuses, refuses_at}
+use Rattle.asm_read.specs.Labels.{is_some_and}
 use Rattle.asm_line.specs.Statements.{IsStatement, opens}
 use Rattle.rv_isa.specs.declared.inst.Line.{Line}
 use Rattle.rv_isa.specs.declared.statement.Statement.{Statement}
 use Rattle.asm_read.specs.declared.object.Object.{Object}
 use Rattle.asm_read.specs.declared.object.ObjectSymbol.{ObjectSymbol}
 use Rattle.asm_read.specs.declared.refusal.AsmRefusal.TheVariants.{Line as RefusedLine}
-use Rattle.asm_read.proofs.BadLemmas.{passed_is_not_bad, read_length, refused_is_bad}
+use Rattle.asm_read.proofs.BadLemmas.{passed_is_not_bad, read_first, read_length, refused_is_bad}
+use Rattle.asm_read.proofs.FarLemmas.{IsAnyRefused, far_said, readings_are, split}
 use Rattle.asm_inst.proofs.BytesLemmas.{tail_same}
 use Rattle.asm_line.proofs.StatementLemmas.{statement_once}
 use Rattle.rv_isa.specs.Statements.{statement_line}
@@ -31,6 +34,28 @@ lines_said (line ∷ lines) [] h said = absurd h
 lines_said (line ∷ lines) (None ∷ readings) h said = absurd (said 0 (omega arith) refl)
 lines_said (line ∷ lines) (Some statement ∷ readings) h said =
     ap (λ l. l ∷ lines) h.0.1 ∙ ap (λ ls. statement_line statement ∷ ls) (lines_said lines readings h.1 (said_tail (Some statement) readings said))
+
+all_some : (readings : List (Option Statement)) → AllSaid readings → readings ≡ map (λ s. Some s) (statements_in readings)
+all_some [] said = refl
+all_some (None ∷ readings) said = absurd (said 0 (omega arith) refl)
+all_some (Some statement ∷ readings) said = ap (λ rs. Some statement ∷ rs) (all_some readings (said_tail (Some statement) readings said))
+
+take_length : (n : ℕ) (xs : List (Option Statement)) → n ≤ length xs → length (take n xs) ≡ n
+take_length zero xs l = refl
+take_length (suc n) [] l = absurd (omega (arith, l))
+take_length (suc n) (x ∷ xs) l = ap suc (take_length n xs (omega (arith, l)))
+
+get_or-take : (xs : List (Option Statement)) (n k : ℕ) (d : Option Statement) → k < n → slice_index_or (take n xs) k d ≡ slice_index_or xs k d
+get_or-take xs zero k d l = absurd (omega (arith, l))
+get_or-take [] (suc n) k d l = refl
+get_or-take (x ∷ xs) (suc n) zero d l = refl
+get_or-take (x ∷ xs) (suc n) (suc k) d l = get_or-take xs n k d (omega (arith, l))
+
+drop_all : (n : ℕ) (xs : List (List ℕ)) → length xs ≤ n → drop n xs ≡ []
+drop_all zero [] l = refl
+drop_all zero (x ∷ xs) l = absurd (omega (arith, l))
+drop_all (suc n) [] l = refl
+drop_all (suc n) (x ∷ xs) l = drop_all n xs (omega (arith, l))
 
 pub statements_said : (lines : List (List ℕ)) (readings : List (Option Statement)) → AreRead lines readings → All IsStatement (statements_in readings)
 statements_said [] [] h = All-nil IsStatement
@@ -59,27 +84,109 @@ module _ (lines : List (List ℕ)) (last : List ℕ) (readings : List (Option St
   fine_not_bad k fine (inl (l, bad)) = passed_is_not_bad lines readings k read l (by_test k fine (refuses_at readings k) l refl) bad
   fine_not_bad k fine (inr (at, some)) = some (by_end k fine whole at refl)
 
+  bad_refused : (k : ℕ) → k ≤ length readings → IsBadLine lines last k → IsRefused readings whole k
+  bad_refused k within bad = elim (split k (length readings) within) [
+    | inl l ↦ by_line l (refuses_at readings k) refl
+    | inr e ↦ by_last e whole refl
+  ]
+    where
+      by_line : k < length readings → (b : Bool) → refuses_at readings k ≡ b → IsRefused readings whole k
+      by_line l true e = inl (l, e)
+      by_line l false e = absurd (fine_not_bad k (not_line l e) bad)
+        where
+          not_line : k < length readings → refuses_at readings k ≡ false → IsRefused readings whole k → ⊥
+          not_line l e (inl (m, r)) = false≢true (sym e ∙ r)
+          not_line l e (inr (same, r)) = omega (arith, same, l)
+
+      by_last : k ≡ length readings → (b : Bool) → whole ≡ b → IsRefused readings whole k
+      by_last same false e = inr (same, e)
+      by_last same true e = absurd (fine_not_bad k (not_last same e) bad)
+        where
+          not_last : k ≡ length readings → whole ≡ true → IsRefused readings whole k → ⊥
+          not_last same e (inl (m, r)) = omega (arith, same, m)
+          not_last same e (inr (also, r)) = false≢true (sym r ∙ e)
+
+  -- the lines before the end say statements
+  module _ (end : ℕ) (h : IsEnd readings whole end) where
+    first_said : AllSaid (take end readings)
+    first_said k l e =
+        let m : k < end = omega (arith, l, take_length end readings h.within) in
+        let n : k < length readings = omega (arith, m, h.within) in
+        let none : slice_index_or readings k None ≡ None = sym (get_or-take readings end k None m) ∙ e in
+        h.fine k m (inl (n, ap (refuses (list_any (is_some_and opens) (take k readings)) (λ q. list_any (is_some_and (gives q)) (take k readings)) (λ q. list_any (is_some_and (gives q)) readings)) none))
+
+    first_are : take end readings ≡ map (λ s. Some s) (statements_in (take end readings))
+    first_are = all_some (take end readings) first_said
+
+    first_length : length (statements_in (take end readings)) ≡ end
+    first_length =
+        let counted : length (take end readings) ≡ length (statements_in (take end readings)) = ap length first_are ∙ length-map (statements_in (take end readings)) (λ s. Some s) in
+        omega (arith, counted, take_length end readings h.within, h.within)
+
+    pub missed_far : (k : ℕ) → is_far_at (take end readings) k ≡ true → IsFarLine lines last k
+    missed_far k far = record {
+      statements = statements_in (take end readings);
+      rest = drop end lines;
+      are = sym (take-append-drop end lines) ∙ ap (λ ls. ls ++ drop end lines) (lines_said (take end lines) (take end readings) (read_first lines readings end read) first_said);
+      allowed = statements_said (take end lines) (take end readings) (read_first lines readings end read);
+      fine = λ j l. fine_not_bad j (h.fine j (omega (arith, l, first_length)));
+      ends = ends_of h.ends;
+      far = sym (far_said (statements_in (take end readings)) k) ∙ ap (λ xs. is_far_at xs k) (sym first_are) ∙ far;
+    }
+      where
+        ends_of : (end ≡ length readings) ⊎ IsRefused readings whole end → (drop end lines ≡ []) ⊎ IsBadLine lines last (length (statements_in (take end readings)))
+        ends_of (inl e) = inl (drop_all end lines (omega (arith, e, read_length lines readings read)))
+        ends_of (inr refused) = inr (subst (IsBadLine lines last) (sym first_length) (refused_bad end refused))
+
+  far_missed : (k : ℕ) → IsFarLine lines last k → IsMissed readings whole k
+  far_missed k f =
+      let end : ℕ = length f.statements in
+      let counted : length lines ≡ end + length f.rest = ap length f.are ∙ length-append (map statement_line f.statements) f.rest ∙ ap (λ n. n + length f.rest) (length-map f.statements statement_line) in
+      let within : end ≤ length readings = omega (arith, counted, read_length lines readings read) in
+      let same : take end readings ≡ map (λ s. Some s) f.statements = readings_are f.statements f.rest readings f.allowed (subst (λ ls. AreRead ls readings) f.are read) in (
+        end,
+        record {
+          within = within;
+          fine = λ j l refused. f.fine j l (refused_bad j refused);
+          ends = ends_of within counted f.ends;
+        },
+        ap (λ xs. is_far_at xs k) same ∙ far_said f.statements k ∙ f.far,
+      )
+    where
+      ends_of : length f.statements ≤ length readings → length lines ≡ length f.statements + length f.rest → (f.rest ≡ []) ⊎ IsBadLine lines last (length f.statements) → (length f.statements ≡ length readings) ⊎ IsRefused readings whole (length f.statements)
+      ends_of within counted (inl e) = inl (omega (arith, counted, ap length e, read_length lines readings read))
+      ends_of within counted (inr bad) = inr (bad_refused (length f.statements) within bad)
+
+  any_bad : (k : ℕ) → IsAnyRefused readings whole k → IsRefusedLine lines last k
+  any_bad k (inl refused) = inl (refused_bad k refused)
+  any_bad k (inr missed) = inr (missed_far missed.0 missed.1 k missed.2)
+
+  none_bad : (k : ℕ) → (IsAnyRefused readings whole k → ⊥) → IsRefusedLine lines last k → ⊥
+  none_bad k fine (inl bad) = fine_not_bad k (λ refused. fine (inl refused)) bad
+  none_bad k fine (inr far) = fine (inr (far_missed k far))
+
   pub first_bad : (k : ℕ) → IsFirstRefused readings whole k → IsFirstBad lines last k
-  first_bad k first = (refused_bad k first.0, λ j l. fine_not_bad j (first.1 j l))
+  first_bad k first = (any_bad k first.0, λ j l. none_bad j (first.1 j l))
 
   all_said : ((k : ℕ) → IsRefused readings whole k → ⊥) → AllSaid readings
-  all_said fine k l e = fine k (inl (l, ap (refuses (list_any (is_some_and opens) (take k readings)) (λ q. list_any (is_some_and (defines q)) (take k readings)) (λ q. list_any (is_some_and (defines q)) readings)) e))
+  all_said fine k l e = fine k (inl (l, ap (refuses (list_any (is_some_and opens) (take k readings)) (λ q. list_any (is_some_and (gives q)) (take k readings)) (λ q. list_any (is_some_and (gives q)) readings)) e))
 
-  pub accepted : (text : List ℕ) → HasLines text lines last → ((k : ℕ) → IsRefused readings whole k → ⊥) → IsAssembly text (statements_in readings)
+  pub accepted : (text : List ℕ) → HasLines text lines last → ((k : ℕ) → IsAnyRefused readings whole k → ⊥) → IsAssembly text (statements_in readings)
   accepted text has fine =
-      let nothing : last ≡ [] = by_end (length lines) (fine (length lines)) whole refl refl in
-      let said : lines ≡ map statement_line (statements_in readings) = lines_said lines readings read (all_said fine) in
+      let each : (k : ℕ) → IsRefused readings whole k → ⊥ = λ k refused. fine k (inl refused) in
+      let nothing : last ≡ [] = by_end (length lines) (each (length lines)) whole refl refl in
+      let said : lines ≡ map statement_line (statements_in readings) = lines_said lines readings read (all_said each) in
       record {
         spelled = text_is_lines text (map statement_line (statements_in readings)) (subst (λ ls. HasLines text ls []) said (subst (λ l. HasLines text lines l) nothing has));
         allowed = statements_said lines readings read;
-        no_bad_line = λ k bad. fine_not_bad k (fine k) (subst (λ ls. IsBadLine ls last k) (sym said) (subst (λ l. IsBadLine (map statement_line (statements_in readings)) l k) (sym nothing) bad));
+        no_bad_line = λ k bad. none_bad k (fine k) (subst (λ ls. IsRefusedLine ls last k) (sym said) (subst (λ l. IsRefusedLine (map statement_line (statements_in readings)) l k) (sym nothing) bad));
       }
 
 -- the lines of an assembly
 assembly_lines : (text : List ℕ) (statements : List Statement) → IsAssembly text statements → HasLines text (map statement_line statements) []
 assembly_lines text statements h = subst (λ t. HasLines t (map statement_line statements) []) (sym h.spelled) (lines_of_statements statements h.allowed)
 
-statements_once : (statements more : List Statement) → All IsStatement statements → All IsStatement more → map statement_line statements ≡ map statement_line more → statements ≡ more
+pub statements_once : (statements more : List Statement) → All IsStatement statements → All IsStatement more → map statement_line statements ≡ map statement_line more → statements ≡ more
 statements_once [] [] h k e = refl
 statements_once [] (g ∷ more) h k e = cc
 statements_once (f ∷ statements) [] h k e = cc
@@ -99,7 +206,7 @@ assembly_once text statements more h k =
 pub never_refused : (text : List ℕ) (statements : List Statement) (line : ℕ) → IsAssembly text statements → IsRefusal text (RefusedLine line) → ⊥
 never_refused text statements line h (lines, last, k, has, first, is) =
     let same = lines_once text lines (map statement_line statements) last [] has (assembly_lines text statements h) in
-    h.no_bad_line k (subst (λ l. IsBadLine (map statement_line statements) l k) same.1 (subst (λ ls. IsBadLine ls last k) same.0 first.0))
+    h.no_bad_line k (subst (λ l. IsRefusedLine (map statement_line statements) l k) same.1 (subst (λ ls. IsRefusedLine ls last k) same.0 first.0))
 
 abbrev object_with : List Line → List ObjectSymbol → List (List ℕ) → Object
 object_with words symbols needs = record { words = words; symbols = symbols; needs = needs }

@@ -4,9 +4,10 @@ use Rattle.std.proofs.Math.Bool.{or_comm}
 use Rattle.std.proofs.lemmas.List.{get_or_default}
 use Rattle.std.proofs.lemmas.List.Folds.{list_any_more}
 use Rattle.std.specs.List.{list_any}
-use Rattle.asm_read.specs.Assembly.{defines, is_some_and, needs_section}
-use Rattle.asm_read.specs.Checks.{refuses, refuses_at}
-use Rattle.asm_line.specs.Statements.{defined, exported, opens}
+use Rattle.asm_read.specs.Assembly.{needs_section}
+use Rattle.asm_read.specs.Checks.{gives, refuses, refuses_at}
+use Rattle.asm_read.specs.Labels.{is_some_and}
+use Rattle.asm_line.specs.Statements.{named, opens, wanted}
 use Rattle.rv_isa.specs.declared.statement.Statement.{Statement}
 
 joined : (a b x y : Bool) → a ≡ x → b ≡ y → (a || b) ≡ (x || y)
@@ -32,12 +33,12 @@ refuses_same : (line : Option Statement) (o o' : Bool) (s s' k k' : List ℕ →
 refuses_same None o o' s s' k k' e f g = refl
 refuses_same (Some statement) o o' s s' k k' e f g =
     joined _ _ _ _
-    (joined _ _ _ _ (ap (λ b. needs_section statement && not b) e) (same_named s s' (defined statement) f))
-    (same_named (λ name. not (k name)) (λ name. not (k' name)) (exported statement) (λ name. ap not (g name)))
+    (joined _ _ _ _ (ap (λ b. needs_section statement && not b) e) (same_named s s' (named statement) f))
+    (same_named (λ name. not (k name)) (λ name. not (k' name)) (wanted statement) (λ name. ap not (g name)))
 
 pub refused_here : (lines : List (Option Statement)) (k : ℕ) (line : Option Statement) (o : Bool) (s d : List ℕ → Bool) → k < length lines → line ≡ get_or lines k line
-    → o ≡ list_any (is_some_and opens) (take k lines) → ((q : List ℕ) → s q ≡ list_any (is_some_and (defines q)) (take k lines)) → ((q : List ℕ) → d q ≡ list_any (is_some_and (defines q)) lines)
+    → o ≡ list_any (is_some_and opens) (take k lines) → ((q : List ℕ) → s q ≡ list_any (is_some_and (gives q)) (take k lines)) → ((q : List ℕ) → d q ≡ list_any (is_some_and (gives q)) lines)
     → refuses o s d line ≡ refuses_at lines k
 refused_here lines k line o s d l e p q r =
     refuses_same line o _ s _ d _ p q r
-    ∙ ap (refuses (list_any (is_some_and opens) (take k lines)) (λ q. list_any (is_some_and (defines q)) (take k lines)) (λ q. list_any (is_some_and (defines q)) lines)) (e ∙ get_or_default lines k line None l)
+    ∙ ap (refuses (list_any (is_some_and opens) (take k lines)) (λ q. list_any (is_some_and (gives q)) (take k lines)) (λ q. list_any (is_some_and (gives q)) lines)) (e ∙ get_or_default lines k line None l)

@@ -7,3 +7,5 @@ pub mod ReadLemmas
 pub mod BadLemmas
 pub mod AssemblyLemmas
 pub mod OrderLemmas
+pub mod LabelLemmas
+pub mod FarLemmas

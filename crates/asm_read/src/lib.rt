@@ -7,6 +7,7 @@
 mod assembler;
 mod build;
 mod check;
+mod labels;
 mod lines;
 mod names;
 mod object;

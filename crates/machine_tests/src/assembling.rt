@@ -106,7 +106,6 @@ const REFUSED: &[(&[u8], u64)] = &[
     (b"\t.text\n\tli\tt0,7\n", 2),
     (b"\t.text\n\tmv\ta0, zero\n", 2),
     (b"\t.text\n\"a\":\n", 2),
-    (b"\t.text\n.LBB0_1:\n", 2),
     (b"\t.text\n\n", 2),
     (b"\t.text\n\taddi\tt0, a0, 0\n", 2), // long for mv, li and ret
     (b"\t.text\n\taddi\tt0, zero, 5\n", 2),

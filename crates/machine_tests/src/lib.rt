@@ -9,6 +9,8 @@ mod code;
 #[cfg(test)]
 mod encoding;
 #[cfg(test)]
+mod labels;
+#[cfg(test)]
 mod linking;
 #[cfg(test)]
 mod memory;

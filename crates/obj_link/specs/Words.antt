@@ -5,8 +5,9 @@ use Rattle.std.specs.Int.{to_le_bytes, w32}
 use Rattle.std.specs.Str.{bytes_eq}
 use Rattle.rv_isa.specs.Encoding.{encoded}
 use Rattle.rv_isa.specs.Format.{sign_extended}
+use Rattle.rv_isa.specs.Instructions.{unimp_word}
 use Rattle.rv_isa.specs.declared.inst.Line.{Line}
-use Rattle.rv_isa.specs.declared.inst.Line.TheVariants.{Plain, High, Low}
+use Rattle.rv_isa.specs.declared.inst.Line.TheVariants.{Plain, High, Low, Unimp}
 use Rattle.asm_read.specs.declared.object.Object.{Object}
 use Rattle.asm_read.specs.declared.object.ObjectSymbol.{ObjectSymbol}
 use Rattle.obj_link.specs.declared.image.SymbolAddress.{SymbolAddress}
@@ -58,6 +59,7 @@ line_word address (High i symbol offset) =
     encoded (record i { imm = pos (high_part (moved (address symbol) offset)) })
 line_word address (Low i symbol offset) =
     encoded (record i { imm = low_part (moved (address symbol) offset) })
+line_word address Unimp = unimp_word
 
 -- the words of lines, by where the sections of their object begin, its symbols and the global ones
 abbrev pub words_at : SectionAddresses → List ObjectSymbol → List SymbolAddress → List Line → List ℕ

@@ -14,7 +14,7 @@ use crate::layout::{IMAGE_BEGIN, symbol_place, text_size};
 use crate::names::own_symbol;
 use crate::sections::SectionAddresses;
 use asm_read::ObjectSymbol;
-use rv_isa::{Inst, Line, encode};
+use rv_isa::{Inst, Line, UNIMP, encode};
 use std::alloc::{AllocError, Global};
 
 /// Where the names of an object's lines are looked up.
@@ -91,6 +91,7 @@ fn word_of_line(line: &Line, scope: Scope<'_>) -> u32
             *inst,
             address(scope, symbol.as_bytes()).wrapping_add_signed(*offset),
         )),
+        Line::Unimp => UNIMP,
     }
 }
 

@@ -30,3 +30,7 @@ mv rd rs = addi rd rs (pos 0)
 -- `ret`, which jumps to ra
 abbrev pub ret : Inst
 ret = jalr 0 1 (pos 0)
+
+-- the word of `unimp`, which is that of no instruction
+abbrev pub unimp_word : ℕ
+unimp_word = 0xC0001073

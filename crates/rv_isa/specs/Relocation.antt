@@ -1,10 +1,10 @@
--- Lines of code that have a word: an instruction of the table, and for the upper and the lower part of
--- an address one of a format that holds it.
+-- Lines of code that have a word: an instruction of the table, for the upper and the lower part of
+-- an address one of a format that holds it, and `unimp`.
 use Rattle.std.specs.Prelude.{List, [], ◌∷◌}
 use Rattle.rv_isa.specs.Encoding.{IsInst}
 use Rattle.rv_isa.specs.Table.{row}
 use Rattle.rv_isa.specs.declared.inst.Line.{Line}
-use Rattle.rv_isa.specs.declared.inst.Line.TheVariants.{Plain, High, Low}
+use Rattle.rv_isa.specs.declared.inst.Line.TheVariants.{Plain, High, Low, Unimp}
 use Rattle.rv_isa.specs.declared.row.Row.{Row}
 use Rattle.rv_isa.specs.declared.row.Row.TheVariants.{RType, IType, Shift, ShiftW, SType, BType, UType, JType, Whole}
 
@@ -36,6 +36,7 @@ abbrev pub IsLine : Line → Type 0
 IsLine (Plain i) = IsInst i
 IsLine (High i symbol offset) = IsInst i × HoldsHigh (row i.op)
 IsLine (Low i symbol offset) = IsInst i × HoldsLow (row i.op)
+IsLine Unimp = Unit {0}
 
 -- each of these lines has a word
 abbrev pub AreLines : List Line → Type 0

@@ -58,3 +58,30 @@ spelled_by Nothing word i = spelled_line word []
 
 abbrev pub instruction_line : Inst → List ℕ
 instruction_line i = spelled_by (shape i.op) (mnemonic i.op) i
+
+-- An instruction with a text in place of its immediate, in its short form where it has one.
+
+abbrev pub word_to : Shape → List ℕ → Inst → List ℕ
+word_to AddImmediate own i = if i.rs1 == 0 then codes "li" else own
+word_to Jump own i = if i.rd == 0 then codes "j" else own
+word_to other own i = own
+
+-- such an address
+abbrev pub based_on : List ℕ → ℕ → List ℕ
+based_on offset base = offset ++ 40 ∷ (register base ++ 41 ∷ [])
+
+-- the operands; of the instructions without an immediate the text stands alone
+abbrev pub operands_to : Shape → Inst → List ℕ → List (List ℕ)
+operands_to AddImmediate i last =
+    if i.rs1 == 0 then register i.rd ∷ last ∷ [] else register i.rd ∷ register i.rs1 ∷ last ∷ []
+operands_to Immediate i last = register i.rd ∷ register i.rs1 ∷ last ∷ []
+operands_to Load i last = register i.rd ∷ based_on last i.rs1 ∷ []
+operands_to Store i last = register i.rs2 ∷ based_on last i.rs1 ∷ []
+operands_to Branch i last = register i.rs1 ∷ register i.rs2 ∷ last ∷ []
+operands_to Upper i last = register i.rd ∷ last ∷ []
+operands_to Jump i last = if i.rd == 0 then last ∷ [] else register i.rd ∷ last ∷ []
+operands_to JumpRegister i last = register i.rd ∷ based_on last i.rs1 ∷ []
+operands_to other i last = last ∷ []
+
+abbrev pub line_to : Inst → List ℕ → List ℕ
+line_to i last = spelled_line (word_to (shape i.op) (mnemonic i.op) i) (operands_to (shape i.op) i last)

@@ -119,4 +119,10 @@ pub enum Line {
         /// Added to the symbol's address.
         offset: i64,
     },
+    /// `unimp`, whose word is that of no instruction of the table.
+    Unimp,
 }
+
+/// The word of `unimp`, which is `csrrw zero, cycle, zero`: a write of a counter that can be read alone
+/// (RISC-V Assembly Programmer's Manual, "Pseudoinstructions").
+pub const UNIMP: u32 = 0xc000_1073;

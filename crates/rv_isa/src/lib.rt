@@ -16,7 +16,7 @@ mod symbol;
 
 pub use encoding::{decode, decoding_is_undone, encode, encoding_is_undone, words_fit};
 pub use entries::{mnemonic, row_of, shape_of};
-pub use inst::{Inst, Line};
+pub use inst::{Inst, Line, UNIMP};
 pub use op::Op;
 pub use register::{A0, A1, A7, RA, SP, T0, T1, ZERO, register_name};
 pub use row::Row;

@@ -14,6 +14,12 @@ pub enum Statement {
     Define(SymName),
     /// An instruction.
     Code(Inst),
+    /// `unimp`: the word that no instruction has.
+    Unimp,
+    /// `.LBBf_b:`: the label is the place of the next instruction, within its text alone.
+    Label(SymName),
+    /// A branch or a jump to a label, its immediate 0.
+    ToLabel(Inst, SymName),
 }
 
 impl Drop for Statement {
@@ -21,7 +27,9 @@ impl Drop for Statement {
         match self {
             Statement::Global(symbol) => drop(symbol),
             Statement::Define(symbol) => drop(symbol),
-            Statement::Text | Statement::Align | Statement::Code(_) => {}
+            Statement::Label(label) => drop(label),
+            Statement::ToLabel(_, label) => drop(label),
+            Statement::Text | Statement::Align | Statement::Code(_) | Statement::Unimp => {}
         }
     }
 }

@@ -1,5 +1,6 @@
 use Rattle.asm_read.proofs.CheckLemmas.{seen_more}
-use Rattle.asm_read.specs.Assembly.{exports, is_some_and}
+use Rattle.asm_read.specs.Assembly.{exports}
+use Rattle.asm_read.specs.Labels.{is_some_and}
 use Rattle.asm_read.proofs.check.exported_names.Goals as goal
 
 pub loop-line-preserved : goal.loop-line-preserved

@@ -1,7 +1,8 @@
 use Rattle.std.proofs.Common.{◌≡◌, ℕ, List, take}
 use Rattle.std.specs.List.{list_any}
 use Rattle.asm_read.specs.Checks.{has}
-use Rattle.asm_read.specs.Assembly.{exports, is_some_and}
+use Rattle.asm_read.specs.Assembly.{exports}
+use Rattle.asm_read.specs.Labels.{is_some_and}
 use Rattle.asm_read.proofs.check.exported_names.Given as goal
 
 abbrev pub invariant-loop-line : goal.invariant-loop-line

@@ -1,0 +1,9 @@
+use Rattle.std.proofs.Common.{◌≡◌, ℕ, List, take}
+use Rattle.std.specs.List.{list_any}
+use Rattle.asm_read.specs.Checks.{has}
+use Rattle.asm_read.specs.Checks.{gives}
+use Rattle.asm_read.specs.Labels.{is_some_and}
+use Rattle.asm_read.proofs.check.named_in.Given as goal
+
+abbrev pub invariant-loop-line : goal.invariant-loop-line
+invariant-loop-line l = (q : List ℕ) → has l.names q ≡ list_any (is_some_and (gives q)) (take l.line-index l.lines)
