@@ -1,9 +1,8 @@
 //! The blocks of variables (LangRef, "Global Variables").
-ghost use Rattle.std.specs.Prelude.{◌≡◌, ◌<◌, true, IfOk, OnOk, MatchResult};
+ghost use Rattle.std.specs.Prelude.{◌≡◌, true, IfOk, OnOk, MatchResult};
 ghost use Rattle.ir_data.specs.Placeable.{IsCause};
 ghost use Rattle.ir_loaded.specs.Pairs.{loaded};
 ghost use Rattle.ir_mem.specs.Placing.{placed};
-ghost use Rattle.ir_sem.specs.Accesses.{align_or};
 ghost use Rattle.ir_sem.specs.Globals.{can_have, fitted, global_block, global_blocks, initial_bytes, is_placeable, maybe_bytes};
 
 use crate::bytes::push_zeros;
@@ -50,20 +49,6 @@ fn initial_bytes<'a>(
     Ok(bytes)
 }
 
-/// The alignment of a variable in bytes: the one that is written, or else that of its type.
-fn align_of<'a>(l: &LoadedModule<'a>, variable: &Variable) -> u64
-    ensures value { result ≡ align_or (loaded l.now).text.types variable.now.ty variable.now.align }
-    ensures some { 0 < result }
-{
-    match variable.align {
-        Some(align) => align.max(1),
-        None => match l.types().layout(variable.ty.tree()) {
-            Some(layout) => layout.align,
-            None => 1,
-        },
-    }
-}
-
 /// Places a variable at an address, if its block can have that.
 fn place<'a>(
     alloc: Global,
@@ -80,7 +65,12 @@ fn place<'a>(
     let Ok(bytes) = initial_bytes(alloc, l, variable) else {
         return Err(PlaceEnd::NoMemory);
     };
-    memory.place_bytes(base, align_of(l, variable), bytes, !variable.constant)
+    memory.place_bytes(
+        base,
+        l.align_or(&variable.ty, variable.align),
+        bytes,
+        !variable.constant,
+    )
 }
 
 /// The memory that a run begins with: each variable that is defined is a block at its address, with its initial bytes.

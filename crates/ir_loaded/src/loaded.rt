@@ -1,6 +1,7 @@
 //! A module with the addresses of its variables.
-ghost use Rattle.std.specs.Prelude.{◌≡◌, ◌≤◌, IfOk};
+ghost use Rattle.std.specs.Prelude.{◌≡◌, ◌<◌, ◌≤◌, IfOk};
 ghost use Rattle.ir_loaded.specs.Pairs.{loaded};
+ghost use Rattle.ir_sem.specs.Accesses.{align_or};
 ghost use Rattle.ir_sem.specs.Addresses.{address_of, end_address, item_address};
 ghost use Rattle.ir_sem.specs.Globals.{layout};
 ghost use Rattle.ir_syntax.specs.Types.{tree_of};
@@ -11,7 +12,7 @@ use ir_aliases::{AliasEnds, End};
 use ir_ident::Name;
 use ir_scope::GlobalItem;
 use ir_sizes::NamedTypes;
-use ir_syntax::{Module, TypeTree};
+use ir_syntax::{Module, TyText, TypeTree};
 use std::alloc::{AllocError, Global};
 use std::marker::Model;
 use ty_core::Layout;
@@ -135,6 +136,20 @@ impl<'a> LoadedModule<'a> {
         match self.types.layout(ty) {
             Some(layout) => layout,
             None => Layout { size: 0, align: 1 },
+        }
+    }
+
+    /// The alignment in bytes that is written, or else that of the type; none is 0.
+    pub fn align_or(&self, ty: &TyText, align: Option<u64>) -> u64
+        ensures value { result ≡ align_or (loaded self.now).text.types ty.now align }
+        ensures some { 0 < result }
+    {
+        match align {
+            Some(align) => align.max(1),
+            None => match self.types.layout(ty.tree()) {
+                Some(layout) => layout.align,
+                None => 1,
+            },
         }
     }
 }

@@ -1,5 +1,5 @@
 -- What reads find in the blocks of a memory, and what changes leave of them.
-use Rattle.std.proofs.Common.{◌≡◌, ◌∙◌, ℕ, ◌+◌, ◌-◌, ◌<◌, ◌≤◌, Bool, true, false, if◌then◌else◌, Some, option_map, HoldsAt, List, ◌++◌, length, take, drop, get_or, set, insert, replicate, sym, ap, subst, arith}
+use Rattle.std.proofs.Common.{◌≡◌, ◌∙◌, ℕ, ◌+◌, ◌-◌, ◌<◌, ◌≤◌, Bool, true, false, not, ◌||◌, if◌then◌else◌, Some, is_some, option_map, HoldsAt, List, ◌++◌, length, take, drop, get_or, set, insert, replicate, sym, ap, subst, arith}
 use Rattle.std.specs.Option.{option_map_or}
 use Rattle.ir_mem.proofs.FindLemmas.{after_store, found_at, stored_at, writable_at}
 use Rattle.ir_mem.proofs.LittleLemmas.{length-to_little}
@@ -9,7 +9,7 @@ use Rattle.ir_mem.proofs.StayLemmas.{placed_stays}
 use Rattle.ir_mem.specs.Placing.{can_place, fresh, placed}
 use Rattle.std.proofs.lemmas.List.{length-replicate}
 use Rattle.ir_mem.specs.Bytes.{to_little}
-use Rattle.ir_mem.specs.Memory.{IsMemory, block_at, bytes_from, holds, stored, with_bytes}
+use Rattle.ir_mem.specs.Memory.{IsMemory, block_at, bytes_from, can_access, holds, stored, with_bytes}
 use Rattle.ir_mem.specs.declared.block.Block.{Block}
 
 -- a block that has these bytes
@@ -101,3 +101,10 @@ insert_stays true blocks now memory at size align fill place bytes filled upto b
     subst IsMemory (sym (insert_placed blocks now at size fill place bytes filled upto begun is))
     (placed_stays (fresh at size fill) blocks align memory (ap (λ n. can_place blocks at n align) long ∙ free))
 insert_stays false blocks now memory at size align fill place bytes filled upto begun free is = subst IsMemory (sym is) memory
+
+-- whether a range that a block is found to hold can be accessed
+pub found_allows : (blocks : List Block) (at size place : ℕ) (block : Block) (write : Bool) → IsFound blocks at size place block →
+    not write || block.writable ≡ can_access blocks at size write
+found_allows blocks at size place block true is = found_writable blocks at size place block is
+found_allows blocks at size place block false is =
+    sym (ap is_some (found_at at size is.some blocks is.memory place block is.inside is.held))

@@ -128,6 +128,17 @@ impl Memory {
         }
     }
 
+    /// Whether one live block holds a range that is not empty and, for a write, is writable.
+    pub fn allows(&self, at: u64, size: u64, write: bool) -> bool
+        requires { 0 < size }
+        ensures { result ≡ can_access self.now at size write }
+    {
+        match holder(self.blocks.as_slice(), at, size) {
+            Some(place) => !write | self.blocks[place].writable,
+            None => false,
+        }
+    }
+
     /// The bytes of a range that is not empty, where one live block holds it.
     pub fn bytes(&self, at: u64, size: u64) -> Option<&[u8]>
         requires { 0 < size }

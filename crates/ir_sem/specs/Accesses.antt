@@ -40,6 +40,6 @@ may_access blocks at size align write = is_aligned at align && can_access blocks
 abbrev pub overlap : ℕ → ℕ → ℕ → Bool
 overlap a b size = not (nat_eq a b) && nat_lt (max a b) (min a b + size)
 
--- the value of a type at an address: the lowest bits of the bytes
-abbrev pub value_at : List Block → ℕ → TextTree → Option Value
-value_at blocks at ty = option_map (λ n. Number (n % 2 ^ bits_of ty)) (loaded blocks at (value_size ty))
+-- the value of so many bits at an address: the lowest bits of the bytes
+abbrev pub value_at : List Block → ℕ → ℕ → Option Value
+value_at blocks at bits = option_map (λ n. Number (n % 2 ^ bits)) (loaded blocks at (bytes_of bits))

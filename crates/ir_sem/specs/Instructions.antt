@@ -12,14 +12,14 @@ use Rattle.ir_sem.specs.Accesses.{align_or, is_aligned, may_access, value_at, va
 use Rattle.ir_sem.specs.Actions.{Action, give, choose, reserve, write, write_any, enter, break, given}
 use Rattle.ir_sem.specs.Addresses.{Loaded}
 use Rattle.ir_sem.specs.Elements.{element_address}
-use Rattle.ir_sem.specs.Intrinsics.{Argument, values_of, declared_action}
+use Rattle.ir_sem.specs.Intrinsics.{values_of, declared_action}
 use Rattle.ir_sem.specs.Locals.{Locals}
 use Rattle.ir_sem.specs.Operands.{bits_of, operand_value}
 use Rattle.ir_sem.specs.Operations.{binary, cast, compared, selected}
+use Rattle.ir_sem.specs.declared.argument.Argument.{Argument}
 use Rattle.ir_sem.specs.declared.value.Value.{Value}
 use Rattle.ir_sem.specs.declared.value.Value.TheVariants.{Number, Poison}
 use Rattle.ir_sizes.specs.Sized.{layout_in}
-use Rattle.ir_syntax.specs.Types.{TextTree}
 use Rattle.ir_syntax.specs.declared.function.Function as function
 use Rattle.ir_syntax.specs.declared.instr.Arg.{Arg}
 use Rattle.ir_syntax.specs.declared.instr.Op.{Op}
@@ -38,9 +38,10 @@ abbrev pub or_break : Option Value → Action
 or_break None = break
 or_break (Some value) = give value
 
-abbrev pub load_action : List Block → TextTree → ℕ → Value → Action
-load_action blocks ty align (Number at) = if is_aligned at align then or_break (value_at blocks at ty) else break
-load_action blocks ty align Poison = break
+-- a value of so many bits is read
+abbrev pub load_action : List Block → ℕ → ℕ → Value → Action
+load_action blocks bits align (Number at) = if is_aligned at align then or_break (value_at blocks at bits) else break
+load_action blocks bits align Poison = break
 
 -- poison has no bytes: any may be stored
 abbrev pub written : ℕ → ℕ → Value → Action
@@ -89,7 +90,7 @@ op_action l locals blocks (Freeze ty value) = frozen_action (bits_of ty) (operan
 op_action l locals blocks (Gep inbounds ty base_ty base indices) =
     give (element_address l.text.types (operand_value l locals) ty (operand_value l locals base_ty base) indices)
 op_action l locals blocks (Load ty address_ty address align) =
-    load_action blocks ty (align_or l.text.types ty align) (operand_value l locals address_ty address)
+    load_action blocks (bits_of ty) (align_or l.text.types ty align) (operand_value l locals address_ty address)
 op_action l locals blocks (Store ty value address_ty address align) =
     store_action blocks (value_size ty) (align_or l.text.types ty align) (operand_value l locals ty value) (operand_value l locals address_ty address)
 op_action l locals blocks (Alloca ty count align) =

@@ -11,13 +11,9 @@ use Rattle.ir_sem.specs.Accesses.{may_access, overlap}
 use Rattle.ir_sem.specs.Actions.{Action, give, write, fill_any, put, get, trap, break, given}
 use Rattle.ir_sem.specs.Operands.{narrowed}
 use Rattle.ir_sem.specs.Operations.{applied}
+use Rattle.ir_sem.specs.declared.argument.Argument.{Argument}
 use Rattle.ir_sem.specs.declared.value.Value.{Value}
 use Rattle.ir_sem.specs.declared.value.Value.TheVariants.{Number, Poison}
-
--- an argument: its value, and the alignment that is written, 1 where none is
-pub record Argument : Type 0 where
-  pub value : Value
-  pub align : ℕ
 
 abbrev pub values_of : List Argument → List Value
 values_of arguments = map (λ a. a.value) arguments
@@ -42,9 +38,9 @@ copied blocks may_overlap to from size = by to.value from.value
         then write a (bytes_at blocks b size) else break
     by a b = break
 
--- each byte of a range is set to one
+-- each byte of a range is set to the lowest byte of a number
 abbrev pub all_set : ℕ → ℕ → Value → Action
-all_set to size (Number byte) = write to (replicate size byte)
+all_set to size (Number byte) = write to (replicate size (byte % 256))
 all_set to size Poison = fill_any to size
 
 abbrev pub filled : List Block → Argument → Value → ℕ → Action

@@ -2,6 +2,8 @@
 //! undefined. Definitions alone: the interpreter, the passes of the code generator and the claims about linked programs share them.
 #![tactic(auto)]
 
+mod argument;
 mod value;
 
+pub use argument::Argument;
 pub use value::Value;
