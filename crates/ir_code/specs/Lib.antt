@@ -1,0 +1,4 @@
+pub mod Kinds
+pub mod Meant
+pub mod Prepared
+pub mod Widths
