@@ -3,8 +3,16 @@
 #![tactic(auto)]
 
 #[cfg(test)]
+mod codes;
+#[cfg(test)]
 mod memories;
+#[cfg(test)]
+mod programs;
 #[cfg(test)]
 mod script;
 #[cfg(test)]
+mod slots;
+#[cfg(test)]
 mod variables;
+#[cfg(test)]
+mod ways;
