@@ -120,7 +120,7 @@ def main():
             sys.exit("reading: valgrind counted nothing")
         print(f"reading: 4,096 functions: {read:,} machine instructions, opt {theirs:,} to read and verify: {read / theirs:.2f} of it")
         print(f"reading: 4,096 functions: {whole - read:,} more to check them, {whole / theirs:.2f} of opt together")
-        failed |= read > theirs or whole - read > read
+        failed |= whole > theirs or whole - read > read
     return failed
 
 
